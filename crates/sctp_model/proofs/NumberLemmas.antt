@@ -12,7 +12,7 @@ pub length-u16 : (n : ℕ) → length (u16_bytes n) ≡ 2
 unfolding u16_bytes
 length-u16 n = refl
 
--- what stands behind a number
+-- what is after a number
 pub drop-u16 : (n : ℕ) (rest : List ℕ) → drop 2 (u16_bytes n ++ rest) ≡ rest
 unfolding u16_bytes
 drop-u16 n rest = refl

@@ -1,4 +1,4 @@
--- The end of a packet and the beginning of an association, at an end with a pace and at one without.
+-- The end of a packet and the beginning of an association, at an endpoint with a pace and at one without.
 use Rattle.std.proofs.Common.{◌≡◌, ℕ, ◌&&◌, nat_lt, Bool, true, false, Option, None, Some, refl, sym, subst, ap, arith, ◌∙◌, if◌then◌else◌}
 use Rattle.std.specs.Prelude.{nat_le, option_map}
 use Rattle.std.proofs.lemmas.Bool.{and_parts, le-ltb}
@@ -20,7 +20,7 @@ use Rattle.sctp_model.specs.end.Wearing.{missed_below, worn_since, wearing}
 
 -- ---- the end of a packet
 
--- The end stays, or it is open, and gives up what was missed and may not be retransmitted again.
+-- The endpoint stays, or it is open, and gives up what was missed and may not be retransmitted again.
 pub worn_cases : (P : EndView → Type 0) (from : ℕ) (e : EndView) → P e →
     ((test : ℕ → Bool) → hears (λ g. true) e.phase ≡ true → P (after_abandoning e (worn test e.sender))) → P (wearing from e)
 worn_cases P from e same gives = by e.pace

@@ -22,7 +22,7 @@ inside_passed (suc n) (b ∷ bytes) = inside_passed n bytes
 abbrev pub in_front : Typed → Option (List Typed) → Option (List Typed)
 in_front item o = option_map (λ (others : List Typed). item ∷ others) o
 
--- what stands behind the first item and its padding
+-- what is after the first item and its padding
 abbrev pub behind_first : List ℕ → List ℕ
 behind_first bytes = drop (padded (length_field bytes)) bytes
 
@@ -62,7 +62,7 @@ unfolding typed_of
 typed_of-none [] some h = absurd (omega arith)
 typed_of-none (b ∷ bytes) some h = rw h refl
 
--- ---- an item's bytes, and what stands behind them
+-- ---- an item's bytes, and what is after them
 
 -- the header, the value, the rest
 spread : (item : Typed) (rest : List ℕ) → typed_bytes item ++ rest ≡ u16_bytes item.kind ++ (u16_bytes (typed_length item) ++ (item.value ++ rest))

@@ -11,7 +11,7 @@ use Rattle.sctp_model.proofs.TypedLemmas.{typed_of-nil, length-item, typed_of-re
 pub zeros_long : (n : ℕ) → length {A = ℕ} (replicate n 0) ≡ n
 zeros_long n = length-replicate {A = ℕ} n 0
 
--- behind a multiple of 4 bytes are filled as they are alone
+-- after a multiple of 4 bytes they are filled as they are alone
 filled_behind : (front rest : List ℕ) → length front % 4 ≡ 0 → filled (front ++ rest) ≡ front ++ filled rest
 filled_behind front rest whole =
     let same : padding_after (length (front ++ rest)) ≡ padding_after (length rest) = omega (arith, length-append front rest) in

@@ -1,4 +1,4 @@
--- AGED asks no more than that each packet comes timely since it was built: bags and plans only grow.
+-- AGED asks no more than that each packet arrives timely since it was built: bags and plans only grow.
 use Rattle.std.proofs.Common.{◌≡◌, ℕ, zero, suc, ◌<◌, ◌≤◌, ◌⊎◌, max, nat_le, true, false, List, [], ◌∷◌, length, Option, Some, None, inl, inr, refl, sym, subst, ap, ◌∙◌, arith}
 use Rattle.std.proofs.lemmas.Bool.{cases_lt}
 use Rattle.std.proofs.lemmas.Bool.Decides.{nat_tests}
@@ -119,7 +119,8 @@ built_here s n w (v ∷ vs) le = let on : nat_le n (length (bag_of w s)) ≡ tru
 built_later : (s : Side) (n : ℕ) (w v : World) (vs : List World) → length (bag_of w s) < n → built_in s n w (v ∷ vs) ≡ built_in s n v vs
 built_later s n w v vs lt = let off : nat_le n (length (bag_of w s)) ≡ false = grind (arith, nat_tests) in rw off refl
 
--- what is known at a world of a run: of each packet that there is, no fewer TSNs are assigned by now than when it was built; each other one is built from here on
+-- what is known at a world of a run: of each packet that there is, no fewer TSNs are assigned by now than when it was built; each other one is built from
+-- here on
 record IsHere (f : World) (all : List World) (w : World) (vs : List World) : Type 0 where
   past : (s : Side) (n : ℕ) → n ≤ length (bag_of w s) → (x : Side) → assigned_tsns (built_in s n f all) x ≤ assigned_tsns w x
   next : (s : Side) (n : ℕ) → length (bag_of w s) < n → built_in s n f all ≡ built_in s n w vs
@@ -136,7 +137,7 @@ here_on f all w v vs h longer grown = record {
         let same = ap (λ (u : World). assigned_tsns u x) is in omega (arith, same)
     past s n le x (inr old) = let a = h.past s n old x in let b = grown x in omega (arith, a, b)
 
--- ---- what was built by this world comes in time
+-- ---- what was built by this world arrives in time
 
 got_within : {A : Type 0} (xs : List A) (i : ℕ) (x : A) → slice_get xs i ≡ Some x → i < length xs
 got_within [] i x h = absurd (cc)
@@ -221,7 +222,7 @@ first_in_time w (e ∷ es) (v ∷ vs) (now, later) = now
 first_in_time w [] vs aged = tt
 first_in_time w (e ∷ es) [] aged = tt
 
--- Of each packet that there is, its date has it, and it comes in time since then.
+-- Of each packet that there is, its date has it, and it arrives in time since then.
 record IsDated (f : World) (all : List World) (w : World) (es : List Event) (vs : List World) : Type 0 where
   has : (s : Side) (n : ℕ) → n ≤ length (bag_of w s) → n ≤ length (bag_of (built_in s n f all) s)
   since : (s : Side) (n : ℕ) → n ≤ length (bag_of w s) → AllComeInTime (built_in s n f all) w es vs

@@ -45,7 +45,7 @@ one_run w es os v both same (Then _ mid _ e rest o others step run) = one_run mi
 pub one_clock_stays_one : OneClockStaysOne
 one_clock_stays_one s events answers w run both = one_run (start s) events answers w both refl run
 
--- ---- a moment of both
+-- ---- a time of both
 
 single : (w : World) (e : Event) (o : Option Outcome) (v : World) → Step w e o v → Run w (e ∷ []) (o ∷ []) v
 single w e o v step = Then w v v e [] o [] step (Rest v)

@@ -1,4 +1,4 @@
--- Of a receiver that records up to a bound it is told, in one way, whether an index above the cumulative one was seen.
+-- Of a receiver that records up to a bound it is computed, in one way, whether an index above the cumulative one was seen.
 use Rattle.std.proofs.Common.{◌≡◌, ℕ, zero, suc, ◌<◌, ◌≤◌, ◌⊎◌, Bool, true, false, inl, inr, refl, ap, subst, arith}
 use Rattle.std.specs.Prelude.{◌||◌, not}
 use Rattle.std.proofs.lemmas.Bool.{cases_lt}
@@ -59,7 +59,7 @@ one_gap r true false x y = absurd (y x)
 one_gap r false true x y = absurd (x y)
 one_gap r false false x y = refl
 
--- an end that doesn't delay its SACKs asks for none
+-- an endpoint that doesn't delay its SACKs asks for none
 gap_is_idle : (t : EndView) (n : Notes) (a b : Bool) → t.configuration.delay ≡ false → packet_ended (urged a n) t ≡ packet_ended (urged b n) t
 gap_is_idle t n a b off = go n.acknowledges t.phase
   where

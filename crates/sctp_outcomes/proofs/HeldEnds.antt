@@ -1,4 +1,5 @@
--- Whatever happens at an end, the numbers of its congestion control aren't 0, and where it goes by a pace and is open, its data timer runs while something is in flight.
+-- Whatever happens at an endpoint, the numbers of its congestion control aren't 0, and if it goes by a pace and is open, its data timer runs while
+-- something is in flight.
 use Rattle.std.proofs.Common.{ℕ, zero, suc, ◌-◌, ◌<◌, ◌≡◌, not, ◌||◌, ◌==◌, Bool, true, false, List, [], ◌∷◌, ◌++◌, Option, None, Some, refl, sym, subst, arith, ◌∙◌}
 use Rattle.std.specs.Prelude.{if◌then◌else◌, nat_lt, option_map}
 use Rattle.std.proofs.lemmas.Bool.Decides.{nat_tests}
@@ -44,13 +45,13 @@ use Rattle.sctp_model.specs.messages.Format.{Format}
 use Rattle.sctp_outcomes.proofs.ReachedEnds.{IsReachedAt}
 use Rattle.sctp_model.specs.sender.Reached.{IsReached}
 
--- ---- an end
+-- ---- an endpoint
 
 -- its expiry is set
 abbrev pub IsRunning : Timer → Type 0
 IsRunning t = (m : ℕ) × (t.expiry ≡ Some m)
 
--- An open end with a pace has its data timer running while something is in flight; one that isn't open yet has nothing in flight.
+-- An open endpoint with a pace has its data timer running while something is in flight; one that isn't open yet has nothing in flight.
 abbrev pub Wakes : Phase → Option Pace → SenderView → Timer → Type 0
 Wakes (Open t g) o v r = (p : Pace) → o ≡ Some p → 0 < in_flight v → IsRunning r
 Wakes (Over why) o v r = Unit {0}
@@ -59,7 +60,7 @@ Wakes Listening o v r = in_flight v ≡ 0
 Wakes (Calling d) o v r = in_flight v ≡ 0
 Wakes (Echoing t xs) o v r = in_flight v ≡ 0
 
--- and the numbers of its control aren't 0, where its packets have room
+-- and the numbers of its control aren't 0, if its packets have space
 abbrev pub IsHeldWell : EndView → Type 0
 IsHeldWell e = (12 < e.configuration.limit → IsPaced e.pace) × Wakes e.phase e.pace e.sender (e.timers DataAlarm)
 
@@ -71,7 +72,7 @@ rebased_wakes Listening o v x t r = r
 rebased_wakes (Calling d) o v x t r = r
 rebased_wakes (Echoing k xs) o v x t r = r
 
--- in a state with both ends, from another one
+-- in a state with both endpoints, from another one
 turns : (e : EndView) (h : Phase) → e.phase ≡ h → IsHeldWell e → Wakes h e.pace e.sender (e.timers DataAlarm)
 turns e h is r = subst (λ (k : Phase). Wakes k e.pace e.sender (e.timers DataAlarm)) is r.1
 
@@ -197,7 +198,7 @@ held_replies e tag (IForwardTsn m) t p r (WrongKind _ _ _ _ _) = (r.0, tt)
 held_replies e tag (IForwardTsn m) t p r (IsBad _ _ _ _ _ _ _) = (r.0, tt)
 held_replies e tag (Unknown n f v) t p r (IsUnknown _ _ h) = absurd (unknown_never_replies e t p n f v h)
 
--- ---- a packet that comes
+-- ---- a packet that arrives
 
 held_acts : (tag : ℕ) (e : EndView) (b : Notes) (xs : List ChunkMeaning) (t : EndView) (m : Notes) (v : Verdict) → IsHeldWell e → AllAct tag e b xs t m v → IsHeldWell t
 held_acts tag e b xs t m v r (NoneLeft _ _) = r
@@ -362,7 +363,7 @@ held_rung true a e clear r = go (nat_lt (e.timers a).repeats (repeats_of a))
 held_ring : (a : Alarm) (e : EndView) → (is_over_at e.moment (e.timers a).expiry ≡ true → is_data a ≡ true → NoneWorn e.sender) → IsHeldWell e → IsHeldWell (ring a e)
 held_ring a e clear r = held_rung (is_over_at e.moment (e.timers a).expiry) a e clear r
 
--- where the data timer is due, nothing that is unsettled is worn
+-- if the data timer is due, nothing that is unsettled is worn
 abbrev IsReady : EndView → Type 0
 IsReady e = is_data_due e ≡ true → NoneWorn e.sender
 
@@ -395,7 +396,7 @@ held_rung_all e ready r =
     held_ring ResetAlarm e5 (λ over on. absurd (cc)) (held_ring AckAlarm e4 (λ over on. absurd (cc)) (held_ring ShutdownAlarm e3 (λ over on. absurd (cc))
     (held_ring DataAlarm e2 (λ over on. ready2 over) (held_ring CookieAlarm e1 (λ over on. absurd (cc)) (held_ring InitAlarm e (λ over on. absurd (cc)) r)))))
 
--- what is given up at a moment
+-- what is given up at a time
 given_up_lands : (b : Bool) (v : SenderView) (now : ℕ) → LandsAs v (given_up b v now)
 given_up_lands true v now none = worn_lands (expired_messages v now) (λ i. true) (expired_lands v now none)
 given_up_lands false v now none = expired_lands v now none

@@ -1,4 +1,4 @@
--- In every world of every run that meets the premises no end is held for ever.
+-- In every world of every run that meets the premises no endpoint is held for ever.
 use Rattle.std.proofs.Common.{◌<◌, ◌≡◌, max, List, [], ◌∷◌, Option, None, refl, sym, subst, arith, ◌∙◌}
 use Rattle.sctp_model.specs.wire.Packet.{Packet}
 use Rattle.sctp_model.specs.end.EndView.{Configuration, EndView}
@@ -13,7 +13,7 @@ use Rattle.sctp_outcomes.specs.NeverHeld.{NoneIsHeldForEver}
 use Rattle.sctp_outcomes.proofs.HeldEnds.{IsHeldWell, begins_paced, held_arrives, held_builds, held_ticked, held_called, held_queued, held_abandoned, held_shut, held_aborted, never_held, held_reset, held_told}
 use Rattle.sctp_outcomes.proofs.Reaching.{AreReached, reached_step, senders_reached}
 
--- both ends are
+-- both endpoints are
 abbrev AreHeldWell : World → Type 0
 AreHeldWell w = (x : Side) → IsHeldWell (end_of w x)
 
@@ -24,7 +24,7 @@ at_both : (v : World) → IsHeldWell v.a → IsHeldWell v.b → AreHeldWell v
 at_both v a b A = a
 at_both v a b B = b
 
--- a fragment of either end isn't empty
+-- a fragment of either endpoint isn't empty
 abbrev pub HaveFragments : World → Type 0
 HaveFragments w = (x : Side) → 0 < (end_of w x).configuration.fragment
 
@@ -66,7 +66,7 @@ held_run w es os v fresh f k r (Then _ mid _ e rest o others step run) =
     let on = step_onward w e o mid fresh step in
     held_run mid rest others v on.fresh (λ x. subst (λ (c : Configuration). 0 < c.fragment) (sym (on.later x).configuration) (f x)) (reached_step w e o mid k step) (held_step w e o mid f k r step) run
 
--- an end is set up as its pair was
+-- an endpoint is set up as its pair was
 configured_so : (s : Setup) (x : Side) → (end_of (start s) x).configuration ≡ configuration_of s x
 configured_so s A = refl
 configured_so s B = refl

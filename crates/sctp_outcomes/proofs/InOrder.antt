@@ -42,7 +42,7 @@ senders_are_in_order s events answers w run x some =
     let reached = senders_reached s events answers w run x some in
     record { plan = plan_stays_orderly (format_of (end_of w x)) (end_of w x).sender reached; reached = reached }
 
--- an end is set up as its pair was
+-- an endpoint is set up as its pair was
 configured_so : (s : Setup) (x : Side) → (end_of (start s) x).configuration ≡ configuration_of s x
 configured_so s A = refl
 configured_so s B = refl

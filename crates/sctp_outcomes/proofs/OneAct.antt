@@ -1,4 +1,4 @@
--- What a chunk leaves is one: no two rows of the state table hold at once, and each leaves one end.
+-- What a chunk leaves is one: no two rows of the state table hold at once, and each leaves one endpoint.
 use Rattle.std.proofs.Common.{◌≡◌, ℕ, Bool, true, false, List, Some, None, inl, inr, refl, sym, subst, ap, arith, ◌∙◌}
 use Rattle.sctp_model.specs.wire.Typed.{Typed, typed_in}
 use Rattle.sctp_model.specs.messages.Format.{Format, Plain, Interleaved}

@@ -1,4 +1,4 @@
--- The next packet of an end is one, and so is what building it leaves.
+-- The next packet of an endpoint is one, and so is what building it leaves.
 use Rattle.std.proofs.Common.{◌≡◌, ℕ, Bool, true, false, List, [], ◌∷◌, ◌++◌, Some, refl, sym, subst, ap, ◌∙◌}
 use Rattle.sctp_model.specs.wire.Chunk.{SackMeaning, ChunkMeaning, Sack, HeartbeatAck, Shutdown, CookieEcho}
 use Rattle.sctp_model.specs.numbers.Serial.{tsn}

@@ -1,4 +1,4 @@
--- The steps of an end alone.
+-- The steps of an endpoint alone.
 use Rattle.sctp_model.specs.receiver.Laws.{IsOrdinary}
 use Rattle.sctp_model.specs.end.EndView.{EndView, format_of}
 use Rattle.sctp_outcomes.specs.OneEnd.{IsReal, ActIsOne, BuildIsOne}

@@ -1,4 +1,4 @@
--- What a packet leaves is one end, and it has one verdict.
+-- What a packet leaves is one endpoint, and it has one verdict.
 use Rattle.std.proofs.Common.{◌≡◌, ℕ, Bool, List, [], ◌∷◌, drop, Option, Some, None, refl, sym, subst, ap, ◌∙◌}
 use Rattle.sctp_model.specs.wire.Chunk.{ChunkMeaning}
 use Rattle.sctp_model.specs.wire.Packet.{Packet}
@@ -43,7 +43,7 @@ first_of tag e b x xs t m v (Last _ _ _ _ _ act) = record { after = Ends t; acts
 first_of tag e b x xs t m v (EndsAnswered _ _ _ _ _ p act) = record { after = Replies t p; acts = act; more = (refl, refl, refl) }
 first_of tag e b x xs t m v (Stopped _ _ _ _ n act) = record { after = Drops n; acts = act; more = (refl, refl, refl) }
 
--- where both end: one end, the same notes, one verdict
+-- where both end: one endpoint, the same notes, one verdict
 abbrev AreOne : EndView → EndView → Notes → Notes → Verdict → Verdict → Type 0
 AreOne t u m n v w = (t ≡ u) × (m ≡ n) × (v ≡ w)
 
@@ -71,7 +71,7 @@ one_all tag e b (x ∷ xs) t u m n v w o one other =
         go (Replies z p) act i j = (i.0 ∙ sym j.0, i.1 ∙ sym j.1, i.2 ∙ sym j.2)
         go (Drops z) act i j = (i.0 ∙ sym j.0, i.1 ∙ sym j.1, i.2 ∙ sym j.2)
 
--- and behind its end
+-- and after its end
 ended_one : (t u : EndView) (m n : Notes) (a b : Bool) (v w : Verdict) → LeavesGap t a → LeavesGap u b → AreOne t u m n v w → (packet_ended (urged a m) t ≡ packet_ended (urged b n) u) × (v ≡ w)
 ended_one t u m n a b v w left there one = (
   ap (λ (z : EndView). packet_ended (urged a m) z) one.0 ∙ ap (λ (z : Notes). packet_ended (urged a z) u) one.1

@@ -1,4 +1,4 @@
--- Whatever happens at an end that is set up without round trips, it gets no pace.
+-- Whatever happens at an endpoint that is set up without round trips, it gets no pace.
 use Rattle.std.proofs.Common.{ℕ, ◌≡◌, not, ◌||◌, ◌==◌, Bool, true, false, List, [], ◌∷◌, ◌++◌, Option, None, Some, refl, sym, subst, ap, ◌∙◌}
 use Rattle.std.specs.Prelude.{if◌then◌else◌, nat_lt, option_map, ◌-◌}
 use Rattle.sctp_model.specs.wire.Packet.{Packet, size_of_packet}
@@ -32,9 +32,9 @@ use Rattle.sctp_safety.proofs.machine.Reconfigured.{IsReconfigured, parameters_s
 use Rattle.sctp_model.specs.end.Pacing.{Pace, pace_begun, fresh_pace, heard, expired_pace, sent_pace}
 use Rattle.sctp_model.specs.sender.Words.{when}
 
--- ---- an end
+-- ---- an endpoint
 
--- it has no pace where it is set up without
+-- it has no pace if it is set up without
 abbrev pub IsPlainAt : EndView → Type 0
 IsPlainAt e = e.configuration.fast_retransmit ≡ false → e.pace ≡ None
 
@@ -132,7 +132,7 @@ plain_replies e tag (IForwardTsn m) t p r (WrongKind _ _ _ _ _) = r
 plain_replies e tag (IForwardTsn m) t p r (IsBad _ _ _ _ _ _ _) = r
 plain_replies e tag (Unknown n f v) t p r (IsUnknown _ _ h) = absurd (unknown_never_replies e t p n f v h)
 
--- ---- a packet that comes
+-- ---- a packet that arrives
 
 plain_acts : (tag : ℕ) (e : EndView) (b : Notes) (xs : List ChunkMeaning) (t : EndView) (m : Notes) (v : Verdict) → IsPlainAt e → AllAct tag e b xs t m v → IsPlainAt t
 plain_acts tag e b xs t m v r (NoneLeft _ _) = r

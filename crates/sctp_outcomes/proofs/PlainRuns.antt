@@ -1,4 +1,4 @@
--- In every world of every run an end that is set up without round trips has no pace.
+-- In every world of every run an endpoint that is set up without round trips has no pace.
 use Rattle.std.proofs.Common.{max, List, [], ◌∷◌, Option, None, refl, sym, subst, ◌≡◌, ap, ◌∙◌}
 use Rattle.sctp_model.specs.wire.Packet.{Packet}
 use Rattle.sctp_model.specs.end.EndView.{EndView, Configuration}
@@ -12,7 +12,7 @@ use Rattle.sctp_outcomes.proofs.PlainEnds.{IsPlainAt, plain_anew, plain_arrives,
 use Rattle.sctp_safety.proofs.machine.DiagramRuns.{ends_follow_the_diagram}
 use Rattle.sctp_outcomes.specs.NeverHeld.{NoPaceUnasked}
 
--- both ends' senders are
+-- both endpoints' senders are
 abbrev pub ArePlain : World → Type 0
 ArePlain w = (x : Side) → IsPlainAt (end_of w x)
 
@@ -57,7 +57,7 @@ pub plain_run : (w : World) (es : List Event) (os : List (Option Outcome)) (v : 
 plain_run w es os v r (Rest _) = r
 plain_run w es os v r (Then _ mid _ e rest o others step run) = plain_run mid rest others v (plain_step w e o mid r step) run
 
--- an end is set up as its pair was
+-- an endpoint is set up as its pair was
 configured_so : (s : Setup) (x : Side) → (end_of (start s) x).configuration ≡ configuration_of s x
 configured_so s A = refl
 configured_so s B = refl

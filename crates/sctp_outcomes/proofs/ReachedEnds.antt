@@ -1,4 +1,4 @@
--- Whatever happens at an end, its sender stays one that its calls reach, as far as its fragments aren't empty.
+-- Whatever happens at an endpoint, its sender stays one that its calls reach, as far as its fragments aren't empty.
 use Rattle.std.proofs.Common.{ℕ, ◌<◌, ◌≡◌, not, ◌||◌, ◌==◌, Bool, true, false, List, [], ◌∷◌, ◌++◌, Option, None, Some, refl, sym, subst}
 use Rattle.std.specs.Prelude.{if◌then◌else◌, nat_lt}
 use Rattle.sctp_model.specs.wire.Packet.{Packet}
@@ -38,13 +38,13 @@ use Rattle.sctp_model.specs.sender.Resetting.{resetting}
 use Rattle.sctp_model.specs.wire.Typed.{typed_in}
 use Rattle.sctp_safety.proofs.machine.Reconfigured.{IsReconfigured, parameters_same, asking_same}
 
--- ---- an end
+-- ---- an endpoint
 
 -- its sender is one that its calls reach, as far as its fragments aren't empty
 abbrev pub IsReachedAt : EndView → Type 0
 IsReachedAt e = 0 < e.configuration.fragment → IsReached (format_of e) e.sender
 
--- a sender as it is made, with this end's fragments
+-- a sender as it is made, with this endpoint's fragments
 pub reached_anew : (e : EndView) (initial streams rwnd : ℕ) (partial : Bool) → e.sender ≡ fresh_sender initial streams e.configuration.fragment rwnd partial → IsReachedAt e
 reached_anew e initial streams rwnd partial is = λ some.
     subst (λ (v : SenderView). IsReached (format_of e) v) (sym is) (Begins initial streams e.configuration.fragment rwnd partial some)
@@ -134,7 +134,7 @@ reached_replies e tag (IForwardTsn m) t p r (WrongKind _ _ _ _ _) = r
 reached_replies e tag (IForwardTsn m) t p r (IsBad _ _ _ _ _ _ _) = r
 reached_replies e tag (Unknown n f v) t p r (IsUnknown _ _ h) = absurd (unknown_never_replies e t p n f v h)
 
--- ---- a packet that comes
+-- ---- a packet that arrives
 
 reached_acts : (tag : ℕ) (e : EndView) (b : Notes) (xs : List ChunkMeaning) (t : EndView) (m : Notes) (v : Verdict) → IsReachedAt e → AllAct tag e b xs t m v → IsReachedAt t
 reached_acts tag e b xs t m v r (NoneLeft _ _) = r

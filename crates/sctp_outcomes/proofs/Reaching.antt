@@ -1,4 +1,5 @@
--- In every world of every run each sender is one that its calls reach, as far as its end's fragments aren't empty: nothing else in the world changes a sender.
+-- In every world of every run each sender is one that its calls reach, as far as its endpoint's fragments aren't empty: nothing else in the world changes a
+-- sender.
 use Rattle.std.proofs.Common.{max, List, [], ◌∷◌, Option, None, refl, sym, subst}
 use Rattle.sctp_model.specs.wire.Packet.{Packet}
 use Rattle.sctp_model.specs.end.EndView.{EndView}
@@ -10,7 +11,7 @@ use Rattle.sctp_model.specs.world.Steps.{Step, OpensBoth, OpenRefused, TimePasse
 use Rattle.sctp_safety.proofs.machine.OneEnd.{IsAt, at_end, at_log, at_packet, at_came, answer_of, at_verdict, abort_of, at_abort, both_ends}
 use Rattle.sctp_outcomes.proofs.ReachedEnds.{IsReachedAt, reached_anew, reached_arrives, reached_builds, reached_ticked, reached_sent, reached_abandoned, reached_shut, reached_aborted, reached_reset, reached_told}
 
--- both ends' senders are
+-- both endpoints' senders are
 abbrev pub AreReached : World → Type 0
 AreReached w = (x : Side) → IsReachedAt (end_of w x)
 

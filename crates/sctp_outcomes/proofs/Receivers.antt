@@ -47,7 +47,7 @@ pub record IsReceiverLaw (P : Format → (buffer : ℕ) → ReceiverView → Typ
 abbrev pub Whatever : (Format → ReceiverView → Type 0) → Format → (buffer : ℕ) → ReceiverView → Type 0
 Whatever P f b r = P f r
 
--- ---- an end
+-- ---- an endpoint
 
 module _ (P : Format → ℕ → ReceiverView → Type 0) (law : IsReceiverLaw P) where
   abbrev pub Holds : EndView → Type 0

@@ -1,4 +1,4 @@
--- No chunk changes how an end is set up, so no packet does.
+-- No chunk changes how an endpoint is set up, so no packet does.
 use Rattle.std.proofs.Common.{◌≡◌, ℕ, refl, ◌∙◌}
 use Rattle.sctp_model.specs.wire.Packet.{Packet}
 use Rattle.sctp_model.specs.wire.Chunk.{ChunkMeaning, Data, IData, Init, InitAck, Sack, Heartbeat, HeartbeatAck, Abort, Shutdown, ShutdownAck, Error, CookieEcho, CookieAck, ShutdownComplete, ForwardTsn, IForwardTsn, Unknown}
@@ -12,7 +12,7 @@ use Rattle.sctp_safety.proofs.machine.Sides.{goes_same, ends_same, same_rested, 
 use Rattle.sctp_safety.proofs.machine.Diagram.{arrives_later}
 use Rattle.sctp_outcomes.specs.SetUp.{ChunksLeaveTheConfiguration, PacketsLeaveTheConfiguration, CutPacketsLeaveTheConfiguration}
 
--- a chunk that is answered closes the end
+-- a chunk that is answered closes the endpoint
 replies_leave : (e : EndView) (tag : ℕ) (x : ChunkMeaning) (t : EndView) (p : Packet) → Acts e tag x (Replies t p) → t.configuration ≡ e.configuration
 replies_leave e tag (Data q) t p (PieceEmpty _ _ _ _ _) = refl
 replies_leave e tag (Data q) t p (WrongFormat _ _ _ _ _ _) = refl
@@ -36,7 +36,7 @@ replies_leave e tag (IForwardTsn m) t p (WrongKind _ _ _ _ _) = refl
 replies_leave e tag (IForwardTsn m) t p (IsBad _ _ _ _ _ _ _) = refl
 replies_leave e tag (Unknown k f v) t p (IsUnknown _ _ h) = absurd (unknown_never_replies e t p k f v h)
 
--- an end that is set up as this one
+-- an endpoint that is set up as this one
 abbrev IsSetUpAs : EndView → EndView → Type 0
 IsSetUpAs o t = t.configuration ≡ o.configuration
 

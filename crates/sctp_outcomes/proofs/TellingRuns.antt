@@ -1,4 +1,5 @@
--- Over every run an end's tickets are told behind those told before, and none twice: each step notes what its own law says, and senders are reached.
+-- Over every run an endpoint's tickets are reported after those reported before, and none twice: each step notes what its own law says, and senders are
+-- reached.
 use Rattle.std.proofs.Common.{◌≡◌, ℕ, ◌<◌, max, true, List, [], ◌∷◌, ◌++◌, Option, Some, None, inl, inr, refl, sym, subst, ap, ◌∙◌}
 use Rattle.std.proofs.lemmas.List.{append-nil, append_assoc}
 use Rattle.sctp_model.specs.numbers.Lists.{Has}
@@ -25,9 +26,9 @@ use Rattle.sctp_outcomes.proofs.logs.Called.{connect_keeps_logs, shutdown_keeps_
 use Rattle.sctp_outcomes.proofs.logs.Heard.{packets_keep_logs, cut_packets_keep_logs}
 use Rattle.sctp_outcomes.proofs.logs.Passed.{moments_keep_logs}
 
--- ---- one end
+-- ---- one endpoint
 
--- it is sound, and what was told of it goes on
+-- it is sound, and what was reported of it goes on
 record GoesOn (e t : EndView) : Type 0 where
   sound : IsSound t
   tickets : List ℕ
@@ -69,13 +70,13 @@ new_sound c r h = record { bare = λ on. record { sender = refl; receiver = refl
 opened_sound : (c : Configuration) (own peer : Draw) → IsSound (opened c own peer)
 opened_sound c own peer = record { bare = λ on. absurd (cc); buffer = refl; named = λ e none. absurd none }
 
--- an end that is opened had told nothing
+-- an endpoint that is opened had reported nothing
 by_opening : (e : EndView) (own peer : Draw) → is_before e.phase ≡ true → IsSound e → GoesOn e (opened e.configuration own peer)
 by_opening e own peer before s =
     by_none e (opened e.configuration own peer) (opened_sound e.configuration own peer)
     (sym (ap (λ (v : SenderView). begun_tickets v.plan v.plan.entries) (s.bare before).sender))
 
--- ---- both ends
+-- ---- both endpoints
 
 abbrev AreSound : World → Type 0
 AreSound w = (x : Side) → IsSound (end_of w x)
@@ -124,7 +125,7 @@ step_goes_on w e o v f s (NoMemory _ other_event) = at_both w w (by_itself w.a (
 
 -- ---- runs
 
--- both ends, and the world that they are in
+-- both endpoints, and the world that they are in
 record IsOn (w v : World) : Type 0 where
   fresh : IsFresh v
   on : GoOn w v
@@ -143,7 +144,7 @@ start_sound s B = new_sound _ _ _
 from_start : (s : Setup) (es : List Event) (os : List (Option Outcome)) (w : World) → Run (start s) es os w → IsOn (start s) w
 from_start s es os w run = run_goes_on (start s) es os w (λ q. (refl, refl)) (start_sound s) run
 
--- ---- nothing is told twice
+-- ---- nothing is reported twice
 
 apart_across : (xs ys : List ℕ) → NoTicketTwice (xs ++ ys) → (k : ℕ) → Has ys k → Has xs k → ⊥
 apart_across [] ys h k there here = here
@@ -160,7 +161,7 @@ told_anew e t tickets behind once = record { behind = behind; anew = apart_acros
 once_reached : (e : EndView) → IsReachedAt e → 0 < e.configuration.fragment → NoTicketTwice (numbered e)
 once_reached e reached some = tickets_once (format_of e) e.sender (reached some)
 
--- an end that is set up as another, whose fragments may hold a byte
+-- an endpoint that is set up as another, whose fragments may hold a byte
 holds : (e t : EndView) → t.configuration ≡ e.configuration → 0 < e.configuration.fragment → 0 < t.configuration.fragment
 holds e t same some = subst (λ (c : Configuration). 0 < c.fragment) (sym same) some
 

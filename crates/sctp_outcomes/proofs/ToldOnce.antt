@@ -1,4 +1,4 @@
--- In a view that calls reach no ticket is told by two entries: the one of a message is told by its first fragment, which has one index.
+-- In a view that calls reach no ticket is reported with two entries: that of a message is reported with its first fragment, which has one index.
 use Rattle.std.proofs.Common.{◌≡◌, ℕ, zero, suc, ◌+◌, ◌≤◌, Bool, true, false, List, [], ◌∷◌, Option, Some, None, inl, inr, refl, sym, subst, ap, ◌∙◌, arith}
 use Rattle.std.specs.Prelude.{◌==◌, slice_get, option_and_then}
 use Rattle.std.specs.List.{cons_option}
@@ -17,7 +17,7 @@ use Rattle.sctp_model.proofs.sender.TicketLaws.{is_ticketed}
 use Rattle.sctp_safety.proofs.sending.OrderlyCalls.{plan_stays_orderly}
 use Rattle.sctp_outcomes.specs.ToldOnce.{NoTicketTwice}
 
--- ---- the entry that tells a ticket
+-- ---- the entry with which a ticket is reported
 
 -- it is the first fragment of the message with the ticket
 record IsToldBy (p : Plan) (e : Entry) (t : ℕ) : Type 0 where
@@ -26,7 +26,7 @@ record IsToldBy (p : Plan) (e : Entry) (t : ℕ) : Type 0 where
   is : e ≡ Part lane number 0
   ticket : has_ticket t (message_at p lane number) ≡ true
 
--- what isn't first tells nothing
+-- with what isn't first nothing is reported
 tells_nothing : (t : ℕ) (first : Bool) → first ≡ false → (o : Option Message) → option_and_then (λ m. when first m.ticket) o ≡ Some t → ⊥
 tells_nothing t true off o tells = cc
 tells_nothing t false off None tells = cc
@@ -46,7 +46,7 @@ owns_at p k all [] i e h is = absurd (cc)
 owns_at p k all (d ∷ es) zero e h is = let same : d ≡ e = cc in subst (λ (x : Entry). Owns p k all (entry_lane x) (entry_number x)) same h.0
 owns_at p k all (d ∷ es) (suc i) e h is = owns_at p k all es i e h.1 is
 
--- ---- where it stands
+-- ---- its place
 
 -- these are the entries from a place on
 abbrev StandsFrom : List Entry → ℕ → List Entry → Type 0
@@ -58,7 +58,7 @@ from_next all i e es from = λ j. from (suc j) ∙ ap (slice_get all) (omega ari
 place_is : (all : List Entry) (i : ℕ) (e : Entry) (es : List Entry) → StandsFrom all i (e ∷ es) → slice_get all i ≡ Some e
 place_is all i e es from = ap (slice_get all) (omega arith) ∙ sym (from 0)
 
--- some entry from there on tells the ticket
+-- with some entry from there on the ticket is reported
 record IsToldFrom (p : Plan) (i t : ℕ) : Type 0 where
   place : ℕ
   behind : i ≤ place
@@ -79,7 +79,7 @@ told_from p i (e ∷ es) t from has = by_ticket (λ more. told_from p (suc i) es
         record { place = i; behind = omega arith; entry = e; there = place_is p.entries i e es from; tells = is ∙ ap (λ (k : ℕ). Some k) same }
     by_ticket further (Some u) is (inr more) = earlier (further more)
 
--- ---- none tells it twice
+-- ---- it isn't reported twice
 
 one_name : (m n : Name) → Some m ≡ Some n → m ≡ n
 one_name m n same = cc
@@ -117,6 +117,6 @@ module _ (f : Format) (v : SenderView) (reached : IsReached f v) where
         rest,
       )
 
--- No ticket is told by two entries.
+-- No ticket is reported with two entries.
 pub tickets_once : (f : Format) (v : SenderView) → IsReached f v → NoTicketTwice (begun_tickets v.plan v.plan.entries)
 tickets_once f v reached = none_twice f v reached 0 v.plan.entries (λ j. ap (slice_get v.plan.entries) (omega arith))

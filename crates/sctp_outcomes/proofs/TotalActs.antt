@@ -1,4 +1,4 @@
--- Every chunk does something to an end whose receiver is bounded.
+-- Every chunk does something to an endpoint whose receiver is bounded.
 use Rattle.std.proofs.Common.{◌≡◌, ℕ, zero, suc, ◌<◌, Bool, true, false, List, [], ◌∷◌, length, Option, Some, None, inl, inr, refl, sym, subst, ap, arith, ◌∙◌}
 use Rattle.sctp_model.specs.wire.Chunk.{PieceMeaning, SackMeaning, ForwardMeaning, InitMeaning, ChunkMeaning, Data, IData, Init, InitAck, Sack, Heartbeat, HeartbeatAck, Abort, Shutdown, ShutdownAck, Error, CookieEcho, CookieAck, ShutdownComplete, ForwardTsn, IForwardTsn, Unknown}
 use Rattle.sctp_model.specs.messages.Format.{Format, Plain, Interleaved}
@@ -20,9 +20,9 @@ use Rattle.sctp_outcomes.proofs.receiver.StepsLemmas.{cumulative_is, piece_steps
 use Rattle.sctp_outcomes.proofs.Bounded.{IsBounded}
 use Rattle.sctp_model.specs.end.Reconfiguring.{takes_reconfig}
 
--- ---- where a chunk is heard
+-- ---- in which states a chunk is heard
 
--- an open end whose stage says so, or not
+-- an open endpoint whose stage says so, or not
 data IsHeard (f : Stage → Bool) (h : Phase) : Type 0 where
   Off : hears f h ≡ false → IsHeard f h
   On : (t : Tags) (g : Stage) → h ≡ Open t g → f g ≡ true → IsHeard f h

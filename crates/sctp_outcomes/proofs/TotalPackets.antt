@@ -1,4 +1,4 @@
--- Every packet does something to an end whose receiver is bounded.
+-- Every packet does something to an endpoint whose receiver is bounded.
 use Rattle.std.proofs.Common.{◌≡◌, ℕ, Bool, true, false, List, [], ◌∷◌, drop, Option, Some, None, refl}
 use Rattle.sctp_model.specs.wire.Chunk.{ChunkMeaning}
 use Rattle.sctp_model.specs.wire.Packet.{Packet}
@@ -24,7 +24,7 @@ pub record AllActed (tag : ℕ) (e : EndView) (b : Notes) (xs : List ChunkMeanin
   pub verdict : Verdict
   pub acts : AllAct tag e b xs last notes verdict
 
--- whether there is a gap behind them
+-- whether there is a gap after them
 gap_left : (tag : ℕ) (e : EndView) (b : Notes) (xs : List ChunkMeaning) → IsBounded (format_of e) e.receiver → (r : AllActed tag e b xs) → (gap : Bool) × TellsGap gap r.last.receiver
 gap_left tag e b xs bound r = gap_is_told (format_of r.last) r.last.receiver (holds_acts (Whatever IsBounded) bounded_law tag e b xs r.last r.notes r.verdict bound r.acts)
 

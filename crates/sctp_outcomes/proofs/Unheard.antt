@@ -1,4 +1,4 @@
--- Time and the calls of a user that take no message leave an end its receiver, its terms and its configuration.
+-- Time and the calls of a user that take no message leave an endpoint its receiver, its terms and its configuration.
 use Rattle.std.proofs.Common.{◌≡◌, ℕ, not, ◌||◌, ◌==◌, Bool, true, false, List, [], ◌∷◌, refl, ◌∙◌}
 use Rattle.std.specs.Prelude.{if◌then◌else◌, nat_lt}
 use Rattle.sctp_model.specs.world.Calls.{Call}
@@ -15,7 +15,7 @@ use Rattle.sctp_model.proofs.PacedEnds.{worn_cases}
 use Rattle.sctp_model.specs.end.UserCalls.{SendAnswer, Ticket, Refused, NotOpen, send_leaves, is_open, abandoned_at, shut_in, shut, AbortAnswer, Aborts, NoPeer, TooLong, abort_leaves}
 use Rattle.sctp_safety.proofs.machine.EndWords.{rested_cases}
 
--- an end whose receiver, terms and configuration are another's
+-- an endpoint whose receiver, terms and configuration are another's
 pub record IsUnheard (e t : EndView) : Type 0 where
   pub receiver : t.receiver ≡ e.receiver
   pub terms : t.terms ≡ e.terms

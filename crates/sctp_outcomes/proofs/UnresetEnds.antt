@@ -1,4 +1,4 @@
--- Whatever happens at an end that is set up without resets, it agrees on none.
+-- Whatever happens at an endpoint that is set up without resets, it agrees on none.
 use Rattle.std.proofs.Common.{ℕ, ◌≡◌, not, ◌||◌, ◌==◌, Bool, true, false, List, [], ◌∷◌, ◌++◌, Option, None, Some, refl, sym, subst, ap, ◌∙◌}
 use Rattle.std.specs.Prelude.{if◌then◌else◌, nat_lt, ◌&&◌}
 use Rattle.sctp_model.specs.wire.Packet.{Packet}
@@ -32,9 +32,9 @@ use Rattle.sctp_model.specs.end.Options.{agreed_reset, lists_type, value_of, SUP
 use Rattle.sctp_model.specs.wire.Reconfig.{RECONFIG}
 use Rattle.sctp_safety.proofs.machine.Strangers.{found_is}
 
--- ---- an end
+-- ---- an endpoint
 
--- it has agreed on no resets where it is set up without
+-- it has agreed on no resets if it is set up without
 abbrev pub IsUnresetAt : EndView → Type 0
 IsUnresetAt e = e.configuration.reset ≡ false → e.terms.reset ≡ false
 
@@ -131,7 +131,7 @@ unreset_replies e tag (IForwardTsn m) t p r (WrongKind _ _ _ _ _) = r
 unreset_replies e tag (IForwardTsn m) t p r (IsBad _ _ _ _ _ _ _) = r
 unreset_replies e tag (Unknown n f v) t p r (IsUnknown _ _ h) = absurd (unknown_never_replies e t p n f v h)
 
--- ---- a packet that comes
+-- ---- a packet that arrives
 
 unreset_acts : (tag : ℕ) (e : EndView) (b : Notes) (xs : List ChunkMeaning) (t : EndView) (m : Notes) (v : Verdict) → IsUnresetAt e → AllAct tag e b xs t m v → IsUnresetAt t
 unreset_acts tag e b xs t m v r (NoneLeft _ _) = r

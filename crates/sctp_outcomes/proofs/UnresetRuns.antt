@@ -1,4 +1,4 @@
--- In every world of every run an end that is set up without resets has agreed on none, passes over each RE-CONFIG, and makes none.
+-- In every world of every run an endpoint that is set up without resets has agreed on none, passes over each RE-CONFIG, and makes none.
 use Rattle.std.proofs.Common.{Bool, true, false, ◌&&◌, ◌==◌, max, List, [], ◌∷◌, Option, None, refl, sym, subst, ◌≡◌, ap, ◌∙◌}
 use Rattle.sctp_model.specs.wire.Packet.{Packet}
 use Rattle.sctp_model.specs.end.EndView.{EndView, Configuration, ResetAlarm}
@@ -17,7 +17,7 @@ use Rattle.sctp_model.specs.end.Closing.{takes_data, hears}
 use Rattle.sctp_model.specs.end.Clock.{is_home}
 use Rattle.sctp_model.specs.end.Reconfiguring.{asking_now}
 
--- both ends are
+-- both endpoints are
 abbrev pub AreUnreset : World → Type 0
 AreUnreset w = (x : Side) → IsUnresetAt (end_of w x)
 
@@ -62,7 +62,7 @@ pub unreset_run : (w : World) (es : List Event) (os : List (Option Outcome)) (v 
 unreset_run w es os v r (Rest _) = r
 unreset_run w es os v r (Then _ mid _ e rest o others step run) = unreset_run mid rest others v (unreset_step w e o mid r step) run
 
--- an end is set up as its pair was
+-- an endpoint is set up as its pair was
 configured_so : (s : Setup) (x : Side) → (end_of (start s) x).configuration ≡ configuration_of s x
 configured_so s A = refl
 configured_so s B = refl

@@ -1,4 +1,5 @@
--- What is dropped changed nothing: no chunk of it was listed, or the end still waits for an INIT ACK, or its first chunk was a COOKIE ECHO that doesn't open.
+-- What is dropped changed nothing: no chunk of it was listed, or the endpoint still waits for an INIT ACK, or its first chunk was a COOKIE ECHO that
+-- doesn't open.
 use Rattle.std.proofs.Common.{◌≡◌, ℕ, ◌+◌, ◌⊎◌, Bool, true, false, List, [], ◌∷◌, drop, Option, Some, None, inl, inr, refl, sym, subst, ap, ◌∙◌}
 use Rattle.std.specs.Prelude.{◌&&◌, if◌then◌else◌, ◌==◌}
 use Rattle.sctp_model.specs.wire.Typed.{Typed, typed_in}
@@ -24,7 +25,7 @@ use Rattle.sctp_model.specs.wire.Reconfig.{RECONFIG}
 use Rattle.sctp_safety.proofs.machine.Reconfigured.{parameters_same}
 use Rattle.std.proofs.lemmas.Bool.{and_parts}
 
--- ---- an end that waits for an INIT ACK
+-- ---- an endpoint that waits for an INIT ACK
 
 -- it is in no other state
 not_open : {X : Type 0} (h k : Phase) → is_calling k ≡ false → h ≡ k → is_calling h ≡ true → X
@@ -89,7 +90,7 @@ rested_calling e = rested_cases (λ (x : EndView). is_calling x.phase ≡ true �
 
 -- ---- chunks
 
--- chunks behind others, of which none is one that never follows another chunk
+-- chunks after others, of which none is one that never follows another chunk
 abbrev Follow : List ChunkMeaning → Type 0
 Follow xs = (before : ℕ) × (misplaced_behind before xs ≡ None)
 
@@ -100,7 +101,7 @@ follow_on x xs f = go (never_follows x) refl f.1
     go true is h = absurd (cc)
     go false is h = (is, (f.0 + size_of_chunk x, h))
 
--- where chunks stand as they may, none behind the first is
+-- if chunks are where they may be, none after the first is
 placed_follow : (x : ChunkMeaning) (xs : List ChunkMeaning) → ArePlaced (x ∷ xs) → Follow xs
 placed_follow x [] placed = (0, refl)
 placed_follow x (y ∷ ys) placed = go (stands_alone x) placed
@@ -109,7 +110,7 @@ placed_follow x (y ∷ ys) placed = go (stands_alone x) placed
     go true h = absurd (cc)
     go false h = (size_of_chunk x, h)
 
--- what drops a packet for a cookie is a COOKIE ECHO; for another reason, only an end that waits for an INIT ACK drops one for a chunk
+-- what drops a packet for a cookie is a COOKIE ECHO; for another reason, only an endpoint that waits for an INIT ACK drops one for a chunk
 chunk_drops : (e : EndView) (tag : ℕ) (x : ChunkMeaning) (r : ℕ) → (r ≡ COOKIE → never_follows x ≡ false) → Acts e tag x (Drops r) → is_calling e.phase ≡ true
 chunk_drops e tag (Data p) r behind h = elim h [ ]
 chunk_drops e tag (IData p) r behind h = elim h [ ]
@@ -133,7 +134,7 @@ chunk_drops e tag (Unknown n f v) r behind (IsUnknown _ _ h) = absurd (go (chunk
     go true q = absurd (cc)
     go false q = absurd (cc)
 
--- Nothing changed: the end waits for an INIT ACK still, or nothing was noted.
+-- Nothing changed: the endpoint waits for an INIT ACK still, or nothing was noted.
 abbrev IsLeftSo : EndView → Notes → EndView → Notes → Type 0
 IsLeftSo e n t m = (t ≡ e) × ((is_calling t.phase ≡ true) ⊎ ((m ≡ n) × (n.listed ≡ false)))
 
@@ -190,7 +191,7 @@ ended_calling n t on = go n.acknowledges t.phase on
     go true (Open u g) is = absurd (cc)
     go true (Over why) is = absurd (cc)
 
--- an end that stays has missed nothing
+-- an endpoint that stays has missed nothing
 missed_not : (e t : EndView) → t ≡ e → wearing (missed_below e.pace) t ≡ t
 missed_not e t same = ap (wearing (missed_below e.pace)) same ∙ nothing_missed e ∙ sym same
 
@@ -198,12 +199,12 @@ ended_left : (e t : EndView) (m : Notes) (gap : Bool) → IsLeftSo e no_notes t 
 ended_left e t m gap (same, inl calling) = ap (packet_ended (urged gap m)) (missed_not e t same) ∙ ended_calling (urged gap m) t calling ∙ same
 ended_left e t m gap (same, inr (notes, off)) = ap (λ (k : Notes). packet_ended (urged gap k) (wearing (missed_below e.pace) t)) notes ∙ missed_not e t same ∙ same
 
--- an end that a cookie opened doesn't wait for an INIT ACK, and has a note
+-- an endpoint that a cookie opened doesn't wait for an INIT ACK, and has a note
 never_left : {X : Type 0} (e t : EndView) (n m : Notes) → is_calling e.phase ≡ false → n.listed ≡ true → IsLeftSo e n t m → X
 never_left e t n m off on (same, inl calling) = not_open t.phase e.phase off (ap (λ (x : EndView). x.phase) same) calling
 never_left e t n m off on (same, inr (notes, none)) = let q : true ≡ false = sym on ∙ none in absurd (cc)
 
--- the chunks behind the cookie that opens follow it
+-- the chunks after the cookie that opens follow it
 behind_first : (xs : List ChunkMeaning) → ArePlaced xs → Follow (drop 1 xs)
 behind_first [] placed = (0, refl)
 behind_first (x ∷ xs) placed = placed_follow x xs placed
@@ -224,7 +225,7 @@ drops_change_nothing e now d p t reason placed came = go p t (Dropped reason) pl
     go o u v placed DroppedUnread told = refl
     go o u v placed (ReadAs q _ _ arrives) told = arrives_left reason (at_moment e now) d q u v placed arrives told
 
--- ---- an end without an association
+-- ---- an endpoint without an association
 
 stray_left : (e : EndView) (d : Draw) (p : Packet) (t : EndView) (v : Verdict) → has_association e.phase ≡ false → opened_by e p ≡ None → Arrives e d p t v → t ≡ e
 stray_left e d p t v off none (Elsewhere _) = refl

@@ -15,7 +15,8 @@ built_in s n w (v ∷ vs) = if nat_le n (length (bag_of w s)) then w else built_
 
 -- A packet that is delivered in this world is so before either endpoint has assigned AGE_LIMIT more TSNs than when it was built.
 abbrev pub IsTimely : (first : World) → (all : List World) → (now : World) → Event → Type 0
-IsTimely f all w (Deliver s n) = (p : Packet) → item_at (bag_of w s) n ≡ Some p → (x : Side) → assigned_tsns w x < assigned_tsns (built_in s n f all) x + AGE_LIMIT
+IsTimely f all w (Deliver s n) = (p : Packet) → item_at (bag_of w s) n ≡ Some p → (x : Side) →
+    assigned_tsns w x < assigned_tsns (built_in s n f all) x + AGE_LIMIT
 IsTimely f all w e = Unit {0}
 
 -- so it is of each delivery in these steps
@@ -39,5 +40,6 @@ AgedAsksNoLess = (s : Setup) (es : List Event) (os : List (Option Outcome)) (vs 
 
 -- For a TSN that was assigned stays so: in every run, also in one that meets no premise, each endpoint's number of them only grows.
 abbrev pub PlansOnlyGrow : Type 0
-PlansOnlyGrow = (s : Setup) (events more : List Event) (answers others : List (Option Outcome)) (w v : World) → Run (start s) events answers w → Run w more others v →
+PlansOnlyGrow = (s : Setup) (events more : List Event) (answers others : List (Option Outcome)) (w v : World) → Run (start s) events answers w →
+    Run w more others v →
     (x : Side) → assigned_tsns w x ≤ assigned_tsns v x

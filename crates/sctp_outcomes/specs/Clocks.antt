@@ -1,4 +1,4 @@
--- A world with one clock, which tells both endpoints the time at once, is a world of two clocks in which no event is of one clock alone.
+-- A world with one clock, of whose time both endpoints are notified at once, is a world of two clocks in which no event is of one clock alone.
 use Rattle.std.specs.Prelude.{◌≡◌, Bool, true, false, List, [], ◌∷◌, ◌++◌, Option, Some, None}
 use Rattle.sctp_model.specs.numbers.Lists.{Has}
 use Rattle.sctp_model.specs.receiver.ReceiverView.{Handed, handed}
@@ -19,9 +19,9 @@ abbrev pub OneClockStaysOne : Type 0
 OneClockStaysOne = (s : Setup) (events : List Event) (answers : List (Option Outcome)) (w : World) → Run (start s) events answers w →
     ((e : Event) → Has events e → is_of_both e ≡ true) → w.clock_a ≡ w.clock_b
 
--- ---- a moment of both
+-- ---- a time of both
 
--- what `At` is by each clock: both go on, and each endpoint is asked what is due
+-- what `At` is by each clock: both go on, and each endpoint is notified
 abbrev pub each_of : Option Outcome → Event → List Event
 each_of None e = e ∷ []
 each_of (Some o) (At m) = Later A m ∷ Later B m ∷ Moment A ∷ Moment B ∷ []
@@ -44,12 +44,14 @@ answers_by_each es os = []
 
 -- It adds nothing: each run is a run, to the same world, in which each clock goes on by itself.
 abbrev pub BothAreEach : Type 0
-BothAreEach = (w v : World) (events : List Event) (answers : List (Option Outcome)) → Run w events answers v → Run w (by_each events answers) (answers_by_each events answers) v
+BothAreEach = (w v : World) (events : List Event) (answers : List (Option Outcome)) → Run w events answers v →
+    Run w (by_each events answers) (answers_by_each events answers) v
 
 -- ---- a run in which the clocks differ
 
--- A MESSAGE ARRIVES BY TWO CLOCKS. B's application does as a loop does: at the time of its clock, 5, it hands in what arrived, and then asks what is due.
--- A's clock goes on to 7,000 meanwhile: its data timer expires, and it sends the chunk again (RFC 9260, 6.3.3). B's clock still shows 5.
+-- A MESSAGE ARRIVES BY TWO CLOCKS. B's application does as a loop does: at the time of its clock, 5, it hands in what arrived, and then notifies its
+-- endpoint of the time. A's clock goes on to 7,000 meanwhile: its data timer expires, and it sends the chunk again (RFC 9260, 6.3.3). B's clock still shows
+-- 5.
 pub record AMessageArrivesByTwoClocks : Type 0 where
   pub events : List Event
   pub last : World

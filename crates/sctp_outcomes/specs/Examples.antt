@@ -15,7 +15,7 @@ pub record IsRunTo (events : List Event) (last : World) : Type 0 where
   pub setup : Setup
   pub reached : IsReachable setup events last
 
--- A MESSAGE ARRIVES. Two ends open by packets (no `open`), A sends, B's user takes just that message, and both ends close, each completed.
+-- A MESSAGE ARRIVES. Two endpoints open by packets (no `open`), A sends, B's user takes just that message, and both endpoints close, each completed.
 pub record AMessageArrives : Type 0 where
   pub events : List Event
   pub last : World
@@ -30,8 +30,8 @@ pub record AMessageArrives : Type 0 where
   pub a : last.a.phase ≡ Over Completed
   pub b : last.b.phase ≡ Over Completed
 
--- A MESSAGE IS PASSED OVER, under DATA. The packet of a message is lost and A's user abandons it; the FORWARD-TSN comes to B, which waits for it no longer:
--- the message that A sends then is handed over, as number 1 (RFC 3758, 3.5 and 3.6).
+-- A MESSAGE IS PASSED OVER, under DATA. The packet of a message is lost and A's user abandons it; the FORWARD-TSN arrives at B, which waits for it no
+-- longer: the message that A sends then is delivered, as number 1 (RFC 3758, 3.5 and 3.6).
 pub record AMessageIsPassedOver : Type 0 where
   pub events : List Event
   pub last : World
@@ -49,8 +49,8 @@ pub record AMessageIsPassedOver : Type 0 where
   pub bytes : message.bytes ≡ second.bytes
   pub passed : last.b.receiver.next 0 ≡ 2
 
--- A MESSAGE IN PART ENDS, under I-DATA. The first of two fragments went out and came to B, and A's user abandons the message: it takes one index more, for
--- its end mark, and B lets the fragment go (RFC 8260, 2.3.1).
+-- A MESSAGE IN PART ENDS, under I-DATA. The first of two fragments went out and arrived at B, and A's user abandons the message: it takes one index more,
+-- for its end mark, and B lets the fragment go (RFC 8260, 2.3.1).
 pub record AMessageIsEnded : Type 0 where
   pub events : List Event
   pub last : World

@@ -13,10 +13,11 @@ use Rattle.sctp_outcomes.specs.Kept.{IsSound}
 abbrev pub IsFilling : EndView → Type 0
 IsFilling e = (t : Tags) (g : Stage) → e.phase ≡ Open t g → IsReached (format_of e) e.sender
 
--- A packet that is built at any moment begins a message for each 20 bytes behind its header at most: the header of a DATA chunk, and a byte of the message
+-- A packet that is built at any time begins a message for each 20 bytes after its header at most: the header of a DATA chunk, and a byte of the message
 -- with its padding (RFC 9260, 3.3.1).
 abbrev pub BeginsFew : EndView → Type 0
-BeginsFew e = (now : ℕ) (xs : List ChunkMeaning) (t : EndView) → Builds (at_moment e now) xs t → 20 * length (newly_numbered e.sender t.sender) ≤ e.configuration.limit - HEADER_ROOM
+BeginsFew e = (now : ℕ) (xs : List ChunkMeaning) (t : EndView) → Builds (at_moment e now) xs t →
+    20 * length (newly_numbered e.sender t.sender) ≤ e.configuration.limit - HEADER_ROOM
 
 -- So it is of every sound end.
 abbrev pub BuildsBeginFew : Type 0

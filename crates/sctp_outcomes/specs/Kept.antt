@@ -16,11 +16,12 @@ use Rattle.sctp_model.specs.end.Strays.{Verdict}
 use Rattle.sctp_model.specs.end.Arriving.{Receives, IsCutShort}
 use Rattle.sctp_model.specs.end.Building.{Builds}
 use Rattle.sctp_model.specs.end.Moments.{ticked}
-use Rattle.sctp_model.specs.end.UserCalls.{Called, connect_answer, called, SendAnswer, Ticket, Refused, NotOpen, send_answer, send_leaves, abandoned_at, UserTakes, shut, AbortAnswer, abort_leaves, reset_call, reset_leaves, reset_there, told_leaves}
+use Rattle.sctp_model.specs.end.UserCalls.{Called, connect_answer, called, SendAnswer, Ticket, Refused, NotOpen, send_answer, send_leaves, abandoned_at}
+use Rattle.sctp_model.specs.end.UserCalls.{UserTakes, shut, AbortAnswer, abort_leaves, reset_call, reset_leaves, reset_there, told_leaves}
 
 -- ---- what every end is that calls lead to
 
--- before an association: CLOSED as an end is made, LISTEN, and COOKIE-WAIT (RFC 9260, 4)
+-- before an association: CLOSED as an endpoint is made, LISTEN, and COOKIE-WAIT (RFC 9260, 4)
 abbrev pub is_before : Phase → Bool
 is_before Idle = true
 is_before Listening = true
@@ -29,7 +30,7 @@ is_before (Echoing t xs) = false
 is_before (Open t g) = false
 is_before (Over why) = false
 
--- Nothing stands in its sender and its receiver: they are as they are made.
+-- Its sender and its receiver are empty: they are as they are made.
 pub record IsUnused (e : EndView) : Type 0 where
   pub sender : e.sender ≡ fresh_sender 0 0 e.configuration.fragment 0 false
   pub receiver : e.receiver ≡ fresh_receiver 0 0 e.configuration.buffer
@@ -42,7 +43,7 @@ IsBare e = is_before e.phase ≡ true → IsUnused e
 abbrev pub IsNamed : Plan → Type 0
 IsNamed p = (e : Entry) → Has p.entries e → entry_number e < length (p.messages (entry_lane e))
 
--- An end is bare before an association, its receiver has the buffer that it is set up with, and each index that it gave is of a message of its own.
+-- An endpoint is bare before an association, its receiver has the buffer that it is set up with, and each index that it gave is of a message of its own.
 pub record IsSound (e : EndView) : Type 0 where
   pub bare : IsBare e
   pub buffer : e.receiver.buffer ≡ e.configuration.buffer
@@ -54,7 +55,7 @@ pub record IsSound (e : EndView) : Type 0 where
 abbrev pub numbered : EndView → List ℕ
 numbered e = begun_tickets e.sender.plan e.sender.plan.entries
 
--- Nothing is noted of this end.
+-- Nothing is noted of this endpoint.
 pub record HasNoLogs (e : EndView) : Type 0 where
   pub sound : IsSound e
   pub numbers : numbered e ≡ []
@@ -95,7 +96,7 @@ pub record AddsTaken (e : EndView) (stream : ℕ) (h : Handed) (t : EndView) : T
 
 -- ---- ends as they are made
 
--- of an end that is made nothing is noted
+-- of an endpoint that is made nothing is noted
 abbrev pub FreshHasNoLogs : Type 0
 FreshHasNoLogs = (c : Configuration) (r : Role) (h : Phase) → HasNoLogs (fresh_end c r h)
 
@@ -103,9 +104,9 @@ FreshHasNoLogs = (c : Configuration) (r : Role) (h : Phase) → HasNoLogs (fresh
 abbrev pub OpenedHasNoLogs : Type 0
 OpenedHasNoLogs = (c : Configuration) (own peer : Draw) → HasNoLogs (opened c own peer)
 
--- ---- what comes, and time
+-- ---- what arrives, and time
 
--- A packet that comes numbers, gives and takes nothing, whatever is in it.
+-- A packet that arrives numbers, gives and takes nothing, whatever is in it.
 abbrev pub PacketsKeepLogs : Type 0
 PacketsKeepLogs = (e : EndView) (now : ℕ) (d : Draw) (p : Option Packet) (t : EndView) (v : Verdict) → IsSound e → Receives e now d p t v → KeepsLogs e t
 
@@ -113,7 +114,7 @@ PacketsKeepLogs = (e : EndView) (now : ℕ) (d : Draw) (p : Option Packet) (t : 
 abbrev pub CutPacketsKeepLogs : Type 0
 CutPacketsKeepLogs = (e : EndView) (now : ℕ) (d : Draw) (p : Option Packet) (t : EndView) → IsSound e → IsCutShort e now d p t → KeepsLogs e t
 
--- nor a moment
+-- nor a time
 abbrev pub MomentsKeepLogs : Type 0
 MomentsKeepLogs = (e : EndView) (now : ℕ) → IsSound e → KeepsLogs e (ticked e now)
 

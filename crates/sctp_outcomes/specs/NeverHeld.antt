@@ -12,8 +12,8 @@ use Rattle.sctp_model.specs.world.Events.{Event, Outcome}
 use Rattle.sctp_model.specs.world.Premises.{IsReachable}
 use Rattle.sctp_model.specs.world.Steps.{Run}
 
--- If nothing is in flight, fragments have all the space that a packet leaves; if something is, the data timer runs, whose expiry marks all of it (RFC 9260, 6.1, 6.3.2
--- and 6.3.3).
+-- If nothing is in flight, fragments have all the space that a packet leaves; if something is, the data timer runs, whose expiry marks all of it (RFC 9260,
+-- 6.1, 6.3.2 and 6.3.3).
 pub record IsNeverHeld (e : EndView) : Type 0 where
   pub free : in_flight e.sender ≡ 0 → (xs : List ChunkMeaning) → room_behind e xs ≡ e.configuration.limit - size_of_packet xs
   pub wakes : is_open e.phase ≡ true → (p : Pace) → e.pace ≡ Some p → 0 < in_flight e.sender → (m : ℕ) × ((e.timers DataAlarm).expiry ≡ Some m)
@@ -22,7 +22,8 @@ pub record IsNeverHeld (e : EndView) : Type 0 where
 abbrev pub NoneIsHeldForEver : Type 0
 NoneIsHeldForEver = (s : Setup) (events : List Event) (w : World) → IsReachable s events w → (x : Side) → IsNeverHeld (end_of w x)
 
--- An endpoint that is set up without Fast Retransmit has no pace in any run, whatever third parties know: it behaves as one without round trips and congestion control.
+-- An endpoint that is set up without Fast Retransmit has no pace in any run, whatever third parties know: it behaves as one without round trips and
+-- congestion control.
 abbrev pub NoPaceUnasked : Type 0
 NoPaceUnasked = (s : Setup) (events : List Event) (answers : List (Option Outcome)) (w : World) → Run (start s) events answers w →
     (x : Side) → (configuration_of s x).fast_retransmit ≡ false → (end_of w x).pace ≡ None

@@ -15,7 +15,7 @@ pub record IsReal (e : EndView) : Type 0 where
   pub bound : ℕ
   pub within : IsBound e.receiver bound
 
--- a packet that comes leaves an end, and is answered, so
+-- a packet that arrives leaves an endpoint, and is answered, like this
 abbrev pub HasVerdict : EndView → Draw → Packet → Type 0
 HasVerdict e d p = (t : EndView) × (v : Verdict) × Arrives e d p t v
 
@@ -25,7 +25,7 @@ pub record PacketsAreAnswered (e : EndView) : Type 0 where
   pub one : (d : Draw) (p : Packet) (t u : EndView) (v w : Verdict) → Arrives e d p t v → Arrives e d p u w → (t ≡ u) × (v ≡ w)
   pub real : (d : Draw) (p : Packet) (t : EndView) (v : Verdict) → Arrives e d p t v → IsReal t
 
--- an end has a next packet, of these chunks, none of which is no packet
+-- an endpoint has a next packet, of these chunks, none of which is no packet
 abbrev pub HasNext : EndView → Type 0
 HasNext e = (xs : List ChunkMeaning) × (t : EndView) × Builds e xs t
 

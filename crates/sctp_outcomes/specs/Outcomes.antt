@@ -6,7 +6,7 @@ use Rattle.sctp_model.specs.world.Events.{Event, OpenBoth, At, Drawing, Connect,
 use Rattle.sctp_model.specs.end.EndView.{IsDraw}
 use Rattle.sctp_model.specs.world.Steps.{Step, Run}
 
--- What may happen: chance hands in draws, a time has 64 bits, and in a foreign packet that reads each chunk stands where it may.
+-- What may happen: random values are such, a time has 64 bits, and in a third party's packet that reads each chunk is where it may be.
 abbrev pub CanHappen : World → Event → Type 0
 CanHappen w (OpenBoth x y) = IsDraw x × IsDraw y
 CanHappen w (Later x m) = m < 2 ^ 64
@@ -16,7 +16,7 @@ CanHappen w (Connect d) = IsDraw d
 CanHappen w (Foreign x (Some p)) = ArePlaced p.chunks
 CanHappen w e = Unit {0}
 
--- the event has an outcome that isn't want of memory, and leaves a world
+-- the event has an outcome that isn't an allocation failure, and leaves a world
 abbrev pub HasOutcome : World → Event → Type 0
 HasOutcome w e = (o : Outcome) × (v : World) × Step w e (Some o) v
 

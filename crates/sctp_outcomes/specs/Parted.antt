@@ -22,9 +22,10 @@ abbrev pub ResetAfter : Side → (stream before : ℕ) → List Event → List (
 ResetAfter x n before (e ∷ es) (o ∷ os) count = ((is_reset x n e o ≡ true) × (count ≡ before)) ⊎ ResetAfter x n (before + length (sent_by x e o)) es os count
 ResetAfter x n before es os count = ⊥
 
--- ---- what the receiving application was told
+-- ---- what was reported to the receiving application
 
--- In one of these events the other side asked which stream was reset, and was told of this one, so many of whose messages that waited were delivered before the reset.
+-- In one of these events the other side asked which stream was reset, and got this one, with how many of its messages that waited were delivered before the
+-- reset.
 pub record IsTold (x : Side) (stream : ℕ) (es : List Event) (os : List (Option Outcome)) : Type 0 where
   pub past : List Event
   pub answers : List (Option Outcome)
@@ -39,7 +40,7 @@ pub record IsTold (x : Side) (stream : ℕ) (es : List Event) (os : List (Option
 abbrev pub place_of : (x : Side) (stream : ℕ) (es : List Event) (os : List (Option Outcome)) → IsTold x stream es os → ℕ
 place_of x n es os t = length (taken (other x) n t.past t.answers) + t.waiting
 
--- Whenever it takes a message of the stream, it has asked for the peer's resets: none of the stream is left to be told.
+-- Whenever it takes a message of the stream, it has asked for the peer's resets: none of the stream is left to be reported.
 abbrev pub TakesToldOnly : Side → (stream : ℕ) → List Event → List (Option Outcome) → List World → Type 0
 TakesToldOnly y n (e ∷ es) (o ∷ os) (v ∷ vs) = ((taken_by y n e o ≡ []) ⊎ ((end_of v y).receiver.resets.told n ≡ None)) × TakesToldOnly y n es os vs
 TakesToldOnly y n es os vs = Unit {0}
@@ -60,15 +61,18 @@ pub record AreMatched (e : Exchange) (ms : List Match) : Type 0 where
   pub once : AreInOrder (λ (m k : Match). m.sent.ticket ≡ k.sent.ticket → ⊥) ms
   pub in_order : AreInOrder (λ (m k : Match). m.message.lane.kind ≡ Ordered → k.message.lane.kind ≡ Ordered → m.sent.ticket < k.sent.ticket) ms
 
--- The sender had reset the stream. What is delivered from the place on was accepted after that; what was delivered before it, before: if some of it waited, or messages are
--- taken with all resets told.
-pub record AreParted (x : Side) (stream : ℕ) (es : List Event) (os : List (Option Outcome)) (vs : List World) (t : IsTold x stream es os) (ms : List Match) : Type 0 where
+-- The sender had reset the stream. What is delivered from the place on was accepted after that; what was delivered before it, before: if some of it waited,
+-- or messages are taken with all resets reported.
+pub record AreParted (x : Side) (stream : ℕ) (es : List Event) (os : List (Option Outcome)) (vs : List World) (t : IsTold x stream es os)
+    (ms : List Match) : Type 0 where
   pub count : ℕ
   pub reset : ResetAfter x stream 0 t.past t.answers count
   pub new : (m : Match) → Has (delivered_from (place_of x stream es os t) ms) m → count < m.sent.ticket
-  pub old : (0 < t.waiting) ⊎ TakesToldOnly (other x) stream es os vs → (m : Match) → Has (delivered_before (place_of x stream es os t) ms) m → m.sent.ticket ≤ count
+  pub old : (0 < t.waiting) ⊎ TakesToldOnly (other x) stream es os vs → (m : Match) → Has (delivered_before (place_of x stream es os t) ms) m →
+      m.sent.ticket ≤ count
 
--- THE PROMISE: in every run that meets the three premises, of each stream in each direction, all messages are matched so that every reset that is told parts them.
+-- THE PROMISE: in every run that meets the three premises, of each stream in each direction, all messages are matched so that every reset that is reported
+-- parts them.
 abbrev pub ResetsPartMessages : Type 0
 ResetsPartMessages = (s : Setup) (es : List Event) (os : List (Option Outcome)) (vs : List World) → ((x : Side) → IsConfiguration (configuration_of s x)) →
     PassesThrough (start s) es os vs → FreshAndUnforged s.sealing es → Aged (start s) es vs → (x : Side) (n : ℕ) →

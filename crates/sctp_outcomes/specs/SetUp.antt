@@ -6,7 +6,7 @@ use Rattle.sctp_model.specs.end.EndView.{Draw, EndView}
 use Rattle.sctp_model.specs.end.Strays.{Verdict}
 use Rattle.sctp_model.specs.end.Arriving.{Notes, AllAct, Receives, IsCutShort}
 
--- Chunks that act one after the other leave an end set up as it was.
+-- Chunks that act one after the other leave an endpoint set up as it was.
 abbrev pub ChunksLeaveTheConfiguration : Type 0
 ChunksLeaveTheConfiguration = (tag : ℕ) (e t : EndView) (n m : Notes) (xs : List ChunkMeaning) (v : Verdict) → AllAct tag e n xs t m v →
     t.configuration ≡ e.configuration

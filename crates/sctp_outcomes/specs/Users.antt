@@ -164,7 +164,8 @@ pub record IsFaithful (e : Exchange) : Type 0 where
   -- and ordered ones are in the order in which they were sent.
   pub in_order : AreInOrder (λ (m k : Match). m.message.lane.kind ≡ Ordered → k.message.lane.kind ≡ Ordered → m.sent.ticket < k.sent.ticket) matches
   -- An ordered message that was sent before one of these is one of these, or was given up.
-  pub overtaken : (s : Sent) → WasSent e s → s.call.lane.kind ≡ Ordered → (m : Match) → Has matches m → m.message.lane.kind ≡ Ordered → s.ticket < m.sent.ticket →
+  pub overtaken : (s : Sent) → WasSent e s → s.call.lane.kind ≡ Ordered → (m : Match) → Has matches m → m.message.lane.kind ≡ Ordered →
+      s.ticket < m.sent.ticket →
       IsDelivered matches s ⊎ WasGivenUp e s
   -- A message that is reported acknowledged is one of these, or is held whole; each chunk that is held has one ticket.
   pub ticket_of : Piece → ℕ
@@ -172,7 +173,8 @@ pub record IsFaithful (e : Exchange) : Type 0 where
   -- Once either endpoint has completed the association, every message that was sent is one of these, or was given up.
   pub completed : (x : Side) → e.ended x ≡ Some Completed → (s : Sent) → WasSent e s → IsDelivered matches s ⊎ WasGivenUp e s
 
--- So it is at the end of every run that meets the three premises, of each stream in each direction: and at each moment on the way, since the beginning of a run is a run.
+-- So it is at the end of every run that meets the three premises, of each stream in each direction: and at each time on the way, since the beginning of a
+-- run is a run.
 abbrev pub UsersTakeWhatWasSent : Type 0
 UsersTakeWhatWasSent = (s : Setup) (es : List Event) (os : List (Option Outcome)) (vs : List World) → ((x : Side) → IsConfiguration (configuration_of s x)) →
     PassesThrough (start s) es os vs → FreshAndUnforged s.sealing es → Aged (start s) es vs →

@@ -24,8 +24,8 @@ pub fn short_runs_are_faithful()
     ensures { ShortRunsAreFaithful }
 {}
 
-/// AGED asks just this: each packet is delivered before either endpoint has assigned 2^31 - 65,536 more TSNs than when it was built. For the number of TSNs that an
-/// endpoint has assigned only grows.
+/// AGED asks just this: each packet is delivered before either endpoint has assigned 2^31 - 65,536 more TSNs than when it was built. For the number of TSNs
+/// that an endpoint has assigned only grows.
 // law
 pub fn aged_asks_no_more()
     ensures more { AgedAsksNoMore }

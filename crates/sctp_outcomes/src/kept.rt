@@ -1,26 +1,28 @@
-//! What each call of an end leaves of all that its user notes of it, whatever the end is told.
+//! What each call of an endpoint leaves of all that its user notes of it, whatever arrives.
 //!
 //! No function here does anything: each carries laws as its contract.
 
 ghost use Rattle.sctp_outcomes.specs.Few.{BuildsBeginFew};
-ghost use Rattle.sctp_outcomes.specs.Kept.{AbandonKeepsLogs, AbortKeepsLogs, BuildsAddNumbers, ConnectKeepsLogs, CutPacketsKeepLogs, EmptyBuildsKeepLogs, FreshHasNoLogs, MomentsKeepLogs, OpenedHasNoLogs, PacketsKeepLogs, ResetKeepsLogs, SendGivesTickets, ShutdownKeepsLogs, TakeTakesOne, ToldKeepsLogs};
+ghost use Rattle.sctp_outcomes.specs.Kept.{AbandonKeepsLogs, AbortKeepsLogs, BuildsAddNumbers, ConnectKeepsLogs, CutPacketsKeepLogs, EmptyBuildsKeepLogs};
+ghost use Rattle.sctp_outcomes.specs.Kept.{FreshHasNoLogs, MomentsKeepLogs, OpenedHasNoLogs, PacketsKeepLogs, ResetKeepsLogs, SendGivesTickets};
+ghost use Rattle.sctp_outcomes.specs.Kept.{ShutdownKeepsLogs, TakeTakesOne, ToldKeepsLogs};
 ghost use Rattle.sctp_outcomes.specs.ToldOnce.{BuildsTellAnew, RunsTellAnew};
 
-/// Of an end that is made, or opened without packets, nothing is noted: no ticket, no number, no message taken.
+/// Of an endpoint that is made, or opened without packets, nothing is noted: no ticket, no number, no message taken.
 pub fn new_ends_have_no_logs()
     ensures fresh { FreshHasNoLogs }
     ensures opened { OpenedHasNoLogs }
 {}
 
-/// A packet that comes, whole or cut short, and a moment note nothing.
+/// A packet that arrives, whole or cut short, and a time note nothing.
 pub fn what_comes_keeps_logs()
     ensures packets { PacketsKeepLogs }
     ensures cut { CutPacketsKeepLogs }
     ensures moments { MomentsKeepLogs }
 {}
 
-/// Nor do connect, reset, shutdown, abort and abandon, and what is told of the peer's resets; send notes a ticket exactly where it answers one, and take a
-/// message exactly where it answers one (RFC 9260, 11.1; RFC 3758, 3.5; RFC 6525, 5).
+/// Nor do connect, reset, shutdown, abort and abandon, and what is reported of the peer's resets; send notes a ticket exactly if it answers one, and take a
+/// message exactly if it answers one (RFC 9260, 11.1; RFC 3758, 3.5; RFC 6525, 5).
 pub fn calls_note_their_own()
     ensures connect { ConnectKeepsLogs }
     ensures reset { ResetKeepsLogs }
@@ -32,23 +34,24 @@ pub fn calls_note_their_own()
     ensures take { TakeTakesOne }
 {}
 
-/// A packet that is built notes the tickets of the messages that it newly numbers, behind all before them, and nothing else (RFC 9260, 6.9).
+/// A packet that is built notes the tickets of the messages that it newly numbers, after all before them, and nothing else (RFC 9260, 6.9).
 pub fn packets_note_their_numbers()
     ensures { BuildsAddNumbers }
 {}
 
-/// It begins a message for each 20 bytes behind its header at most (RFC 9260, 3.3.1 and 6.9).
+/// It begins a message for each 20 bytes after its header at most (RFC 9260, 3.3.1 and 6.9).
 pub fn packets_begin_few_messages()
     ensures { BuildsBeginFew }
 {}
 
-/// Where there is no packet to build, asking for it notes nothing.
+/// If there is no packet to build, asking for it notes nothing.
 pub fn no_packet_notes_nothing()
     ensures { EmptyBuildsKeepLogs }
 {}
 
-/// A ticket is told once in the life of an end: each packet that is built tells tickets of messages that had no TSN before and have one now, and over every run,
-/// also of one that meets no premise, what was told stays in its order, and no ticket stands twice in it. So no later packet tells it again (RFC 9260, 6.9).
+/// A ticket is reported once in the life of an endpoint: each packet that is built reports tickets of messages that had no TSN before and have one now, and
+/// over every run, also of one that meets no premise, what was reported stays in its order, and no ticket is twice in it. So no later packet reports it
+/// again (RFC 9260, 6.9).
 pub fn tickets_are_told_once()
     ensures builds { BuildsTellAnew }
     ensures runs { RunsTellAnew }

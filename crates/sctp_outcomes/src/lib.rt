@@ -50,7 +50,7 @@
 //!
 //! | statement | contract |
 //! |---|---|
-//! | in every run without an event of one clock alone both clocks show the same time; each run is a run, to the same world, in which an event that tells both the time is four events of one clock alone | `one_clock_is_a_case_of_two`, clauses `same`, `each` |
+//! | in every run without an event of one clock alone both clocks show the same time; each run is a run, to the same world, in which an event that notifies both of the time is four events of one clock alone | `one_clock_is_a_case_of_two`, clauses `same`, `each` |
 //! | there is a run in which the clocks differ: B hands in what arrived at the time of its clock, 5, and asks what is due then; A's data timer expires at 7,000 by A's clock | `a_message_arrives_by_two_clocks` |
 //!
 //! ## Stream reset

@@ -5,9 +5,9 @@
 ghost use Rattle.sctp_outcomes.specs.Parted.{ResetsPartMessages};
 
 // law
-/// In every run that meets the three assumptions, the messages that an application took from a stream, and those that wait, are matched with messages that its peer's
-/// user passed to `send`, and each reset of the stream that was reported to it parts them: what is delivered after the reset was accepted after the peer's
-/// user had reset the stream; what was delivered before it was accepted before, if some of that waited, or if messages are taken with all resets
+/// In every run that meets the three assumptions, the messages that an application took from a stream, and those that wait, are matched with messages that
+/// its peer's user passed to `send`, and each reset of the stream that was reported to it parts them: what is delivered after the reset was accepted after
+/// the peer's user had reset the stream; what was delivered before it was accepted before, if some of that waited, or if messages are taken with all resets
 /// reported (RFC 6525, 5.1 and 5.2; RFC 8831, 6.7).
 pub fn resets_part_messages()
     ensures { ResetsPartMessages }

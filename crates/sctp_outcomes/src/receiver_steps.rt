@@ -2,10 +2,12 @@
 //!
 //! No function here does anything: each carries a law as its contract.
 
-ghost use Rattle.sctp_outcomes.specs.receiver.StepLaws.{CumulativeIsComputed, DueIsComputed, DueIsOne, ForwardsAreTaken, ForwardsAreTakenSo, NumberIsComputed, NumberIsOne, PiecesAreTaken, PiecesAreTakenSo, RunsAreComputed, SackIsOne, WholesAreAll, WithIsComputed, WithIsOne};
+ghost use Rattle.sctp_outcomes.specs.receiver.StepLaws.{CumulativeIsComputed, DueIsComputed, DueIsOne, ForwardsAreTaken, ForwardsAreTakenSo};
+ghost use Rattle.sctp_outcomes.specs.receiver.StepLaws.{NumberIsComputed, NumberIsOne, PiecesAreTaken, PiecesAreTakenSo, RunsAreComputed, SackIsOne};
+ghost use Rattle.sctp_outcomes.specs.receiver.StepLaws.{WholesAreAll, WithIsComputed, WithIsOne};
 
-/// The whole messages among kept chunks are the lists that are computed; so is the one of a lane and number, of several the lowest, and the one that a chunk is
-/// one of, or that there is none (RFC 9260, 6.9; RFC 8260, 2.2).
+/// The whole messages among kept chunks are the lists that are computed; so is that of a lane (a stream's ordered or unordered messages) and number, of
+/// several the lowest, and that of a chunk, or that there is none (RFC 9260, 6.9; RFC 8260, 2.2).
 pub fn wholes_are_computed()
     ensures all { WholesAreAll }
     ensures number { NumberIsComputed }

@@ -5,7 +5,8 @@
 
 ghost use Rattle.sctp_outcomes.specs.sender.Cuts.{CutIsComputed};
 ghost use Rattle.sctp_outcomes.specs.sender.Refusals.{AcceptedHasNoReason, RefusalIsTold};
-ghost use Rattle.sctp_outcomes.specs.sender.SackLaws.{FaultyIsDropped, FaultyShutdownIsDropped, SackFaultIsTold, SackIsTaken, ShutdownFaultIsTold, ShutdownIsTaken, TakenHasNoFault};
+ghost use Rattle.sctp_outcomes.specs.sender.SackLaws.{FaultyIsDropped, FaultyShutdownIsDropped, SackFaultIsTold, SackIsTaken, ShutdownFaultIsTold};
+ghost use Rattle.sctp_outcomes.specs.sender.SackLaws.{ShutdownIsTaken, TakenHasNoFault};
 ghost use Rattle.sctp_outcomes.specs.sender.WishLaws.{NextIndexIsComputed, NextWishIsComputed, TurnIsComputed};
 
 /// The next wish of every view: the lowest index to be repeated, else the lowest that is to go, else what takes the next index (RFC 9260, 6.1 and 6.3.3;
@@ -16,7 +17,7 @@ pub fn next_wishes_are_computed()
     ensures wish { NextWishIsComputed }
 {}
 
-/// A SACK's first fault is told, and one without a fault is taken (RFC 9260, 3.3.4 and 6.2.1).
+/// A SACK's first fault is reported, and one without a fault is taken (RFC 9260, 3.3.4 and 6.2.1).
 pub fn sacks_are_taken()
     ensures faults { SackFaultIsTold }
     ensures dropped { FaultyIsDropped }

@@ -27,7 +27,8 @@ pub record BecomesAbandoned (v u : SenderView) (l : Lane) (n : ℕ) : Type 0 whe
 pub data AbandonLeaves (v : SenderView) (t : ℕ) : SenderView → Type 0 where
   Withdraws : (queue : List Queued) → (HasNumber v t → ⊥) → IsWithdrawn t v.queue queue → AbandonLeaves v t (record v { queue = queue })
   Lets_be : HasNumber v t → WasAbandoned v t ⊎ (WasAcknowledged v t ⊎ (v.partial ≡ false)) → AbandonLeaves v t v
-  Abandons : (u : SenderView) → (h : HasNumber v t) → (WasAbandoned v t → ⊥) → (WasAcknowledged v t → ⊥) → v.partial ≡ true → BecomesAbandoned v u h.lane h.number → AbandonLeaves v t u
+  Abandons : (u : SenderView) → (h : HasNumber v t) → (WasAbandoned v t → ⊥) → (WasAcknowledged v t → ⊥) → v.partial ≡ true →
+      BecomesAbandoned v u h.lane h.number → AbandonLeaves v t u
 
 -- So it is of every view that calls reach.
 abbrev pub AbandonIsTaken : Type 0

@@ -25,24 +25,24 @@ pub record AreAgreed (x y : Terms) : Type 0 where
   pub reset : y.reset ≡ x.reset
   pub some_streams : (0 < x.outbound) × (0 < x.inbound)
 
--- If both ends go by tags, each puts on its packets the tag that the other looks for (RFC 9260, 8.5).
+-- If both endpoints go by tags, each puts on its packets the tag that the other looks for (RFC 9260, 8.5).
 abbrev pub AreEachOthers : Phase → Phase → Type 0
 AreEachOthers (Open t g) (Open u h) = (u.own ≡ t.peer) × (u.peer ≡ t.own)
 AreEachOthers (Echoing t cookie) (Open u h) = (u.own ≡ t.peer) × (u.peer ≡ t.own)
 AreEachOthers k l = Unit {0}
 
--- No association has both its ends yet: the listener remembers nothing, and the caller, if it has called, was never open.
+-- No association has both its endpoints yet: the listener remembers nothing, and the caller, if it has called, was never open.
 pub record AreApart (w : World) : Type 0 where
   pub listens : w.b.phase ≡ Listening
   pub unopened : is_open w.a.phase ≡ false
 
--- the end is open, or it is over
+-- the endpoint is open, or it is over
 abbrev pub was_open : Phase → Bool
 was_open (Open t g) = true
 was_open (Over why) = true
 was_open h = false
 
--- The association has, or had, both its ends, and they agree, for good.
+-- The association has, or had, both its endpoints, and they agree, for good.
 pub record HaveMet (w : World) : Type 0 where
   pub caller : has_agreed w.a.phase ≡ true
   pub listener : was_open w.b.phase ≡ true
@@ -50,8 +50,8 @@ pub record HaveMet (w : World) : Type 0 where
   pub tags : AreEachOthers w.a.phase w.b.phase
   pub closed_to_opening : w.openable ≡ false
 
--- What the opening keeps in every world, as far as the tags go that were drawn: the ends go by drawn tags and the one seal, and every cookie of the
--- caller's that would open at a listener says what the caller has joined on. So the ends are apart, or they have met.
+-- What the opening keeps in every world, as far as the tags go that were generated: the endpoints go by such tags and the one seal, and every cookie of the
+-- caller's that would open at a listener says what the caller has joined on. So the endpoints are apart, or they have met.
 pub record IsOpening (s : Setup) (drawn : List ℕ) (w : World) : Type 0 where
   pub drawn_tags : (x : Side) → IsDrawn drawn (end_of w x).phase
   pub one_seal : (x : Side) (z : Sealing) → (end_of w x).role ≡ Listener z → z ≡ s.sealing
@@ -59,6 +59,6 @@ pub record IsOpening (s : Setup) (drawn : List ℕ) (w : World) : Type 0 where
       s.sealing.opened cookie ≡ Some b → (has_agreed w.a.phase ≡ true) × AreAgreed w.a.terms (terms_of_body b)
   pub met : AreApart w ⊎ HaveMet w
 
--- THE ENDS AGREE: so it is in every world of every run that meets the premises.
+-- THE ENDPOINTS AGREE: so it is in every world of every run that meets the premises.
 abbrev pub EndsAgree : Type 0
 EndsAgree = (s : Setup) (events : List Event) (w : World) → IsReachable s events w → IsOpening s (drawn_in events) w

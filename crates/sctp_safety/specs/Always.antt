@@ -1,4 +1,4 @@
--- The theorem: whatever moves come, from a start, the direction is safe.
+-- The theorem: whatever moves there are, from a start, the direction is safe.
 use Rattle.std.specs.Prelude.{List}
 use Rattle.sctp_model.specs.messages.Orderly.{Orderly}
 use Rattle.sctp_model.specs.world.Safe.{Safe}

@@ -26,17 +26,17 @@ SackIsAllowed = (w : Way) (x : Acknowledgement) → IsAcknowledgement w.receiver
 abbrev pub ShutdownIsAllowed : Type 0
 ShutdownIsAllowed = (w : Way) (c : ℕ) → IsCumulative w.receiver c → Step w (Put_shutdown c) (record w { shutdowns = c ∷ w.shutdowns })
 
--- A chunk that came for the first time may be recorded and its data dropped, if it is no longer wanted or its stream isn't there.
+-- A chunk that arrived for the first time may be recorded and its data dropped, if it is no longer wanted or its stream isn't there.
 abbrev pub PassingIsMoves : Type 0
 PassingIsMoves = (w : Way) (x : Piece) → Has w.pieces x → w.receiver.seen x.index ≡ false →
     IsPassed w.format w.receiver x ⊎ (w.streams ≤ x.lane.stream) → Leads w (with_receiver w (recorded w.receiver x))
 
--- A chunk that came for the first time may be taken, and what is due handed over.
+-- A chunk that arrived for the first time may be taken, and what is due delivered.
 abbrev pub TakingIsMoves : Type 0
 TakingIsMoves = (w : Way) (x : Piece) (t : ReceiverView) → Has w.pieces x → w.receiver.seen x.index ≡ false →
     TakesPiece w.format w.receiver x t → Leads w (with_receiver w t)
 
--- A FORWARD that counts, which some index up to its point isn't reached for yet, may be taken, and what is due handed over.
+-- A FORWARD that counts, which some index up to its point isn't reached for yet, may be taken, and what is due delivered.
 abbrev pub ForwardIsMoves : Type 0
 ForwardIsMoves = (w : Way) (x : Forward) (t : ReceiverView) → Has w.forwards x → (i : ℕ) → i ≤ x.point → (Reaches w.receiver i → ⊥) →
     TakesForward w.format w.receiver x t → Leads w (with_receiver w t)

@@ -19,7 +19,7 @@ pub record AreOpen (w : World) : Type 0 where
   pub format_a : format_of w.a ≡ Interleaved
   pub format_b : format_of w.b ≡ Interleaved
 
--- There is such a run; it doesn't open the ends without packets.
+-- There is such a run; it doesn't open the endpoints without packets.
 pub record AnAssociationOpens : Type 0 where
   pub setup : Setup
   pub events : List Event
@@ -28,7 +28,7 @@ pub record AnAssociationOpens : Type 0 where
   pub reached : IsReachable setup events last
   pub open_ends : AreOpen last
 
--- And one, longer by three packets, at whose end both ends are closed since both were done.
+-- And one, longer by three packets, after which both endpoints are closed since both were done.
 pub record AnAssociationCloses : Type 0 where
   pub setup : Setup
   pub events : List Event
@@ -38,8 +38,8 @@ pub record AnAssociationCloses : Type 0 where
   pub a : last.a.phase ≡ Over Completed
   pub b : last.b.phase ≡ Over Completed
 
--- And one in which the INIT comes twice, and is answered under two tags. The caller takes the answer that comes first, here the second one,
--- and drops the other; when its cookie comes both ends go by the tags that it says.
+-- And one in which the INIT arrives twice, and is answered under two tags. The caller takes the answer that arrives first, here the second one, and drops
+-- the other; when its cookie arrives both endpoints go by the tags that it says.
 pub record TheFirstAnswerCounts : Type 0 where
   pub setup : Setup
   pub events : List Event
@@ -48,7 +48,7 @@ pub record TheFirstAnswerCounts : Type 0 where
   pub last : World
   pub answers : List (Option Outcome)
   pub reached : IsReachable setup events before
-  -- the answer that was made first comes later, and is dropped for the state
+  -- the answer that was made first arrives later, and is dropped for the state
   pub dropped : Step before later (Some (NotActed STATE)) last
   pub same : last.a.phase ≡ before.a.phase
   pub tags : Tags

@@ -12,7 +12,7 @@ use Rattle.sctp_model.specs.world.Steps.{Step, PassesThrough, last_of}
 use Rattle.sctp_model.specs.world.Aged.{Aged}
 use Rattle.sctp_model.specs.world.Premises.{FreshAndUnforged}
 
--- the message that was handed over is one with a later ticket than this
+-- the message that was delivered is one with a later ticket than this
 pub record IsLater (a : SenderView) (ticket : ℕ) (h : Handed) : Type 0 where
   pub number : ℕ
   pub message : Message
@@ -20,23 +20,24 @@ pub record IsLater (a : SenderView) (ticket : ℕ) (h : Handed) : Type 0 where
   pub first : entry_at a.plan h.first ≡ Some (Part h.lane number 0)
   pub later : ticket < message.ticket
 
--- what was handed over on a stream between two views of a receiver: later messages alone
+-- what was delivered on a stream between two views of a receiver: later messages alone
 pub record HandsLaterOnes (a : SenderView) (ticket : ℕ) (r t : ReceiverView) (stream : ℕ) : Type 0 where
   pub more : List Handed
   pub behind : handed t stream ≡ handed r stream ++ more
   pub each : (h : Handed) → Has more h → IsLater a ticket h
 
--- this end's request waits for its answer, and names the stream
+-- this endpoint's request waits for its answer, and names the stream
 pub record Asks (a : SenderView) (stream : ℕ) : Type 0 where
   pub request : Request
   pub waits : a.resets.pending ≡ Some request
   pub named : lists request.streams stream ≡ true
 
--- In every run that meets the premises, from a world on in which a request for a stream waits for its answer, only messages that are accepted after it are handed over on
--- that stream.
+-- In every run that meets the premises, from a world on in which a request for a stream waits for its answer, only messages that are accepted after it are
+-- delivered on that stream.
 abbrev pub RequestsPartMessages : Type 0
 RequestsPartMessages = (s : Setup) (before events : List Event) (answers others : List (Option Outcome)) (past worlds : List World) →
-    ((x : Side) → IsConfiguration (configuration_of s x)) → PassesThrough (start s) before answers past → PassesThrough (last_of (start s) past) events others worlds →
+    ((x : Side) → IsConfiguration (configuration_of s x)) → PassesThrough (start s) before answers past →
+    PassesThrough (last_of (start s) past) events others worlds →
     FreshAndUnforged s.sealing (before ++ events) → Aged (start s) (before ++ events) (past ++ worlds) → (x : Side) (stream : ℕ) →
     Asks (end_of (last_of (start s) past) x).sender stream →
     HandsLaterOnes (end_of (last_of (last_of (start s) past) worlds) x).sender (end_of (last_of (start s) past) x).sender.tickets

@@ -20,7 +20,7 @@ use Rattle.sctp_safety.specs.Way.{Way, with_receiver}
 use Rattle.sctp_safety.specs.Exact.{Leads}
 use Rattle.sctp_safety.specs.SenderLaws.{IsUsual, IsSackOf}
 
--- ---- what the ends of a direction agree on, and how far apart counts are
+-- ---- what the endpoints of a direction agree on, and how far apart counts are
 
 -- The receiver knows the sender's first TSN and how many streams there are (RFC 9260, 3.3.2 and 3.3.3).
 pub record IsJoined (w : Way) : Type 0 where
@@ -48,7 +48,7 @@ pub record IsReceived (w : Way) (t : ReceiverView) : Type 0 where
 
 -- ---- chunks of the bag, as they are on the wire
 
--- a data chunk that says a piece of the bag
+-- a data chunk whose meaning is one of the bag's
 pub record IsPieceSaid (f : Format) (initial : ℕ) (ps : List Piece) (p : PieceMeaning) : Type 0 where
   pub index : ℕ
   pub lane : Lane
@@ -80,8 +80,8 @@ pub record IsForwardSaid (f : Format) (initial : ℕ) (p : Plan) (fs : List Forw
 abbrev pub AreReached : ReceiverView → (index : ℕ) → Type 0
 AreReached r i = (j : ℕ) → 0 < j → j ≤ i → Reaches r j
 
--- A number of a lane, which a chunk for this index says: it isn't below what the chunk counts it from; and the receiver counts numbers of the lane from there too, or has
--- all up to the index, so that the chunk is old.
+-- A number of a lane, which a chunk for this index says: it isn't below what the chunk counts it from; and the receiver counts numbers of the lane from
+-- there too, or has all up to the index, so that the chunk is old.
 pub record IsBased (f : Format) (r : ReceiverView) (base : Lane → ℕ) (index : ℕ) (l : Lane) (n : ℕ) : Type 0 where
   pub low : is_numbered f l.kind ≡ true → base l ≤ n
   pub same : is_numbered f l.kind ≡ true → AreReached r index ⊎ (base l ≡ r.resets.base l)
@@ -92,26 +92,30 @@ AreBased f r base x = (y : Skip) → Has x.skips y → IsBased f r base x.point 
 
 -- ---- the laws
 
--- A data chunk that comes while its index is near, whatever is answered.
+-- A data chunk that arrives while its index is near, whatever is answered.
 abbrev pub PieceTakenIsMoves : Type 0
-PieceTakenIsMoves = (w : Way) (p : PieceMeaning) (a : PieceAnswer) (t : ReceiverView) → IsUsual w → IsJoined w → IsCounted w.sender → IsIdle w.format w.receiver →
-    (said : IsPieceSaid w.format w.sender.initial w.pieces p) → IsIndexNear w.receiver said.index → IsBased w.format w.receiver said.base said.index said.lane said.number →
+PieceTakenIsMoves = (w : Way) (p : PieceMeaning) (a : PieceAnswer) (t : ReceiverView) → IsUsual w → IsJoined w → IsCounted w.sender →
+    IsIdle w.format w.receiver →
+    (said : IsPieceSaid w.format w.sender.initial w.pieces p) → IsIndexNear w.receiver said.index →
+    IsBased w.format w.receiver said.base said.index said.lane said.number →
     PieceTaken w.format w.receiver p a t → IsReceived w t
 
--- A FORWARD that comes while its point is near, whatever is answered.
+-- A FORWARD that arrives while its point is near, whatever is answered.
 abbrev pub ForwardTakenIsMoves : Type 0
-ForwardTakenIsMoves = (w : Way) (m : ForwardMeaning) (a : ForwardAnswer) (t : ReceiverView) → IsUsual w → IsJoined w → IsCounted w.sender → IsIdle w.format w.receiver →
-    (said : IsForwardSaid w.format w.sender.initial w.sender.plan w.forwards m) → IsIndexNear w.receiver said.forward.point → AreBased w.format w.receiver said.base said.forward →
+ForwardTakenIsMoves = (w : Way) (m : ForwardMeaning) (a : ForwardAnswer) (t : ReceiverView) → IsUsual w → IsJoined w → IsCounted w.sender →
+    IsIdle w.format w.receiver →
+    (said : IsForwardSaid w.format w.sender.initial w.sender.plan w.forwards m) → IsIndexNear w.receiver said.forward.point →
+    AreBased w.format w.receiver said.base said.forward →
     ForwardTaken w.format w.receiver m a t → IsReceived w t
 
--- The SACK of a receiver says one that may be put between the ends.
+-- The SACK of a receiver says one that may be put between the endpoints.
 pub record IsSackPut (w : Way) (s : SackMeaning) : Type 0 where
   pub sack : Acknowledgement
   pub of : IsSackOf w.receiver.initial sack s
   pub cumulative : IsCumulative w.receiver sack.cum
   pub leads : Leads w (record w { sacks = sack ∷ w.sacks })
 
--- A SACK that a receiver makes may be put between the ends (RFC 9260, 6.2).
+-- A SACK that a receiver makes may be put between the endpoints (RFC 9260, 6.2).
 abbrev pub SackMadeIsMoves : Type 0
 SackMadeIsMoves = (w : Way) (s : SackMeaning) → IsSack w.receiver s → IsSackPut w s
 

@@ -21,7 +21,8 @@ PieceLeavesRest = (f : Format) (r : ReceiverView) (p : PieceMeaning) (a : PieceA
 
 -- and so does a FORWARD
 abbrev pub ForwardLeavesRest : Type 0
-ForwardLeavesRest = (f : Format) (r : ReceiverView) (x : ForwardMeaning) (a : ForwardAnswer) (t : ReceiverView) → IsAtRest f r → ForwardTaken f r x a t → IsAtRest f t
+ForwardLeavesRest = (f : Format) (r : ReceiverView) (x : ForwardMeaning) (a : ForwardAnswer) (t : ReceiverView) → IsAtRest f r → ForwardTaken f r x a t →
+    IsAtRest f t
 
 -- and the user who takes a message, or finds none
 abbrev pub TakeLeavesRest : Type 0
@@ -37,7 +38,7 @@ SentLeavesRest = (f : Format) (r : ReceiverView) → IsAtRest f r → IsAtRest f
 abbrev pub NewFits : Type 0
 NewFits = (initial streams buffer : ℕ) → FitsBuffer (fresh_receiver initial streams buffer)
 
--- a chunk is taken if it fits, and handing over needs no room
+-- a chunk is taken if it fits, and delivery needs no space
 abbrev pub PieceFits : Type 0
 PieceFits = (f : Format) (r : ReceiverView) (p : PieceMeaning) (a : PieceAnswer) (t : ReceiverView) → FitsBuffer r → PieceTaken f r p a t → FitsBuffer t
 
@@ -57,8 +58,10 @@ SentFits = (r : ReceiverView) → FitsBuffer r → FitsBuffer (sack_sent r)
 
 -- After a chunk nothing more is due on any number of streams: so giving after the row Taken alone is giving after every row (RFC 9260, 6.6).
 abbrev pub NothingMoreIsDue : Type 0
-NothingMoreIsDue = (f : Format) (r : ReceiverView) (p : PieceMeaning) (a : PieceAnswer) (t u : ReceiverView) (n : ℕ) → IsAtRest f r → PieceTaken f r p a t → GivesAll f n t u → u ≡ t
+NothingMoreIsDue = (f : Format) (r : ReceiverView) (p : PieceMeaning) (a : PieceAnswer) (t u : ReceiverView) (n : ℕ) → IsAtRest f r →
+    PieceTaken f r p a t → GivesAll f n t u → u ≡ t
 
--- What a FORWARD lets go by a plain test is, at rest, just what isn't whole of what it leaves behind (RFC 3758, 3.6; RFC 8260, 2.3.1).
+-- What a FORWARD lets go by a plain test is, at rest, just what isn't whole of what it passes (RFC 3758, 3.6; RFC 8260, 2.3.1).
 abbrev pub FilterIsWords : Type 0
-FilterIsWords = (f : Format) (r : ReceiverView) (c : ℕ) (x : ForwardMeaning) (t : ReceiverView) → IsAtRest f r → LetsGo f (jumped f r c x) t ↔ (t ≡ forwarded f r c x)
+FilterIsWords = (f : Format) (r : ReceiverView) (c : ℕ) (x : ForwardMeaning) (t : ReceiverView) → IsAtRest f r →
+    LetsGo f (jumped f r c x) t ↔ (t ≡ forwarded f r c x)

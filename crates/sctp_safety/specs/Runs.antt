@@ -1,5 +1,5 @@
--- THE HEADLINE, of two endpoints over every run: whatever is called, built, delivered, lost, duplicated, reordered or injected by third parties, however they were opened,
--- and in whichever format and with whichever options they agreed.
+-- THE HEADLINE, of two endpoints over every run: whatever is called, built, delivered, lost, duplicated, reordered or injected by third parties, however
+-- they were opened, and in whichever format and with whichever options they agreed.
 use Rattle.std.specs.Prelude.{◌≡◌, ℕ, ◌<◌, true, List, [], ◌∷◌, ◌++◌, Option}
 use Rattle.sctp_model.specs.numbers.Limits.{AGE_LIMIT}
 use Rattle.sctp_model.specs.numbers.Lists.{Has}
@@ -18,13 +18,13 @@ use Rattle.sctp_model.specs.world.Premises.{FreshAndUnforged, IsReachedInTime, I
 abbrev pub TwoEndsAreSafe : Type 0
 TwoEndsAreSafe = (s : Setup) (events : List Event) (w : World) → IsReachedInTime s events w → IsSafeWorld w
 
--- And in every such world: if either end has completed its association, no message with an index is missing, in either direction. Each was handed over
+-- And in every such world: if either endpoint has completed its association, no message with an index is missing, in either direction. Each was delivered
 -- to the peer's user, or waits for it, or was abandoned by its sender (RFC 9260, 9.2).
 abbrev pub NothingIsMissing : Type 0
 NothingIsMissing = (s : Setup) (events : List Event) (w : World) → IsReachedInTime s events w → IsClosedWorld w
 
--- And nothing waits there either: at both endpoints no message is queued, none is partly sent, and all that has an index is acknowledged. So each message that `send`
--- accepted was delivered, or waits for the peer's user, or was abandoned or withdrawn.
+-- And nothing waits there either: at both endpoints no message is queued, none is partly sent, and all that has an index is acknowledged. So each message
+-- that `send` accepted was delivered, or waits for the peer's user, or was abandoned or withdrawn.
 abbrev pub NothingWaits : Type 0
 NothingWaits = (s : Setup) (events : List Event) (w : World) → IsReachedInTime s events w → (x : Side) → (end_of w x).phase ≡ Over Completed →
     (drained w.a.sender ≡ true) × (drained w.b.sender ≡ true)
@@ -72,39 +72,40 @@ abbrev pub BeginningsAreRuns : Type 0
 BeginningsAreRuns = (w last : World) (events more : List Event) (answers : List (Option Outcome)) →
     Run w (events ++ more) answers last → HasBeginning w events more answers last
 
--- and if the run meets the premises its beginning does: FRESH speaks of fewer draws there, and of fewer packets
+-- and if the run meets the premises its beginning does: FRESH speaks of fewer random values there, and of fewer packets
 abbrev pub BeginningsMeetThePremises : Type 0
 BeginningsMeetThePremises = (s : Sealing) (events more : List Event) → FreshAndUnforged s (events ++ more) → FreshAndUnforged s events
 
--- and if AGED holds of a run it holds of its beginning: fewer packets come there
+-- and if AGED holds of a run it holds of its beginning: fewer packets arrive there
 abbrev pub BeginningsAreAged : Type 0
 BeginningsAreAged = (w : World) (events more : List Event) (answers : List (Option Outcome)) (worlds beyond : List World) →
     PassesThrough w events answers worlds → Aged w (events ++ more) (worlds ++ beyond) → Aged w events worlds
 
 -- ---- each world on the way
 
--- in each of these both directions are safe, and once an end has completed nothing is missing
+-- in each of these both directions are safe, and once an endpoint has completed nothing is missing
 abbrev pub KeepBothPromises : List World → Type 0
 KeepBothPromises [] = Unit {0}
 KeepBothPromises (w ∷ ws) = (IsSafeWorld w × IsClosedWorld w) × KeepBothPromises ws
 
--- So it is in each world that a run goes on through from a world that a run led to, where the premises hold of both as one run.
+-- So it is in each world that a run goes on through from a world that a run led to, if the premises hold of both as one run.
 abbrev pub EachWorldIsSafe : Type 0
 EachWorldIsSafe = (s : Setup) (before events : List Event) (answers others : List (Option Outcome)) (past worlds : List World) →
-    ((x : Side) → IsConfiguration (configuration_of s x)) → PassesThrough (start s) before answers past → PassesThrough (last_of (start s) past) events others worlds →
+    ((x : Side) → IsConfiguration (configuration_of s x)) → PassesThrough (start s) before answers past →
+    PassesThrough (last_of (start s) past) events others worlds →
     FreshAndUnforged s.sealing (before ++ events) → Aged (start s) (before ++ events) (past ++ worlds) → KeepBothPromises (last_of (start s) past ∷ worlds)
 
 -- ---- runs of few TSNs
 
--- neither end has assigned so many TSNs in any of these worlds
+-- neither endpoint has assigned that many TSNs in any of these worlds
 abbrev pub AssignFewer : (limit : ℕ) → List World → Type 0
 AssignFewer limit worlds = (w : World) → Has worlds w → (x : Side) → assigned_tsns w x < limit
 
--- A run of fewer TSNs than a packet may come late by is AGED, however late packets come.
+-- A run of fewer TSNs than a packet may be late by is AGED, however late packets arrive.
 abbrev pub ShortRunsAreAged : Type 0
 ShortRunsAreAged = (w : World) (events : List Event) (worlds : List World) → AssignFewer AGE_LIMIT (w ∷ worlds) → Aged w events worlds
 
--- And if neither end assigns half the space of TSNs no AGED is needed: FRESH and UNFORGED are all that is asked (RFC 9260, 2.6).
+-- And if neither endpoint assigns half the space of TSNs no AGED is needed: FRESH and UNFORGED are all that is asked (RFC 9260, 2.6).
 abbrev pub ShortRunsAreSafe : Type 0
 ShortRunsAreSafe = (s : Setup) (events : List Event) (answers : List (Option Outcome)) (worlds : List World) →
     ((x : Side) → IsConfiguration (configuration_of s x)) → PassesThrough (start s) events answers worlds → FreshAndUnforged s.sealing events →

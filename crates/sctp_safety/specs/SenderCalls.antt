@@ -100,7 +100,7 @@ abbrev pub EachPlanHasOneForward : Type 0
 EachPlanHasOneForward = (f : Format) (plan : Plan) (c p : ℕ) → HasOneForward f plan c p
 
 -- Of a view that calls reach the function gives the one from CUM to an index: of each numbered lane with an entry there the largest number, each lane once
--- and in order. All other calls are functions as they stand.
+-- and in order. All other calls are functions as they are.
 abbrev pub ForwardIsGiven : Type 0
 ForwardIsGiven = (f : Format) (v : SenderView) (p : ℕ) → IsReached f v → IsForward f v.plan v.cum p (forward_to f v p)
 
@@ -113,10 +113,11 @@ pub record IsForwardEnd (f : Format) (limit : ℕ) (v : SenderView) (p : ℕ) : 
 
 -- There is one such index, and the function gives it.
 abbrev pub ForwardEndIsGiven : Type 0
-ForwardEndIsGiven = (f : Format) (limit : ℕ) (v : SenderView) → IsForwardEnd f limit v (forward_end f limit v) × ((p : ℕ) → IsForwardEnd f limit v p → p ≡ forward_end f limit v)
+ForwardEndIsGiven = (f : Format) (limit : ℕ) (v : SenderView) →
+    IsForwardEnd f limit v (forward_end f limit v) × ((p : ℕ) → IsForwardEnd f limit v p → p ≡ forward_end f limit v)
 
 -- ---- drained
 
--- The test tells just when nothing waits, nothing is in part, and all that has an index is acknowledged (RFC 9260, 9.2).
+-- The test holds just if nothing waits, nothing is in part, and all that has an index is acknowledged (RFC 9260, 9.2).
 abbrev pub DrainedIsTold : Type 0
 DrainedIsTold = (f : Format) (v : SenderView) → IsReached f v → (drained v ≡ true → IsDrained v) × (IsDrained v → drained v ≡ true)

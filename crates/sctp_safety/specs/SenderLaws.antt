@@ -18,11 +18,11 @@ use Rattle.sctp_safety.specs.Exact.{Leads}
 
 -- ---- what a sender's view keeps, and moves don't speak of
 
--- a fragment stands at the index
+-- a fragment is at the index
 abbrev pub HasPart : Plan → ℕ → Type 0
 HasPart p i = (l : Lane) × (n : ℕ) × (k : ℕ) × (entry_at p i ≡ Some (Part l n k))
 
--- An end mark stands behind every fragment of its message, what is marked for repeating is a fragment, and each ticket is of an accepted call.
+-- An end mark is after every fragment of its message, what is marked for retransmission is a fragment, and each ticket is of an accepted call.
 pub record IsSenderOrderly (w : Way) : Type 0 where
   pub ends : (i j : ℕ) (l : Lane) (n k : ℕ) → entry_at w.sender.plan i ≡ Some (Part l n k) → entry_at w.sender.plan j ≡ Some (End l n) → i < j
   pub marked : (i : ℕ) → w.sender.marked i ≡ true → HasPart w.sender.plan i
@@ -50,7 +50,7 @@ pub record IsMoved (w v : Way) : Type 0 where
 
 -- ---- filling
 
--- the fragment of a wish, and that its chunk was put between the ends
+-- the fragment of a wish, and that its chunk was put between the endpoints
 pub record IsPut (f : Format) (ps : List Piece) (x : Wish) : Type 0 where
   pub lane : Lane
   pub number : ℕ
@@ -84,7 +84,7 @@ abbrev pub AbandonIsMoves : Type 0
 AbandonIsMoves = (w : Way) (t : ℕ) → IsUsual w →
     IsMoved w (record w { sender = abandon_after w.sender t; asked = record w.asked { named = at w.asked.named t true } })
 
--- What is past its time, at a moment that the clock has reached, is given up by moves.
+-- What is past its time, at a time that the clock has reached, is given up by moves.
 abbrev pub ExpireIsMoves : Type 0
 ExpireIsMoves = (w : Way) (now : ℕ) → IsUsual w → now ≤ w.asked.clock → IsMoved w (with_sender w (expired w.sender now))
 

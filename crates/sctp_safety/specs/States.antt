@@ -1,6 +1,7 @@
 -- The states of an endpoint: over every run it goes along the diagram of states (RFC 9260, 4), and what was agreed on stays.
 use Rattle.std.specs.Prelude.{◌≡◌, ℕ, Bool, true, false, List, Option}
-use Rattle.sctp_model.specs.end.EndView.{Draw, Tags, Stage, Established, ShutdownPending, ShutdownSent, ShutdownReceived, ShutdownAckSent, Ended, Phase, Idle, Listening, Calling, Echoing, Open, Over, EndView, has_association}
+use Rattle.sctp_model.specs.end.EndView.{Draw, Tags, Stage, Established, ShutdownPending, ShutdownSent, ShutdownReceived, ShutdownAckSent, Ended, Phase}
+use Rattle.sctp_model.specs.end.EndView.{Idle, Listening, Calling, Echoing, Open, Over, EndView, has_association}
 use Rattle.sctp_model.specs.world.World.{Side, World, end_of, Setup, start}
 use Rattle.sctp_model.specs.world.Events.{Event, Outcome}
 use Rattle.sctp_model.specs.world.Steps.{Run}
@@ -16,7 +17,7 @@ pub data IsStageTurn : Stage → Stage → Type 0 where
   Cross : IsStageTurn ShutdownSent ShutdownAckSent
   Answers : IsStageTurn ShutdownReceived ShutdownAckSent
 
--- Every arrow there is. An association keeps its tags: the caller's own is the one that it drew. Nothing leads away from a closed end.
+-- Every arrow there is. An association keeps its tags: the caller's own is the one that it generated. Nothing leads away from a closed endpoint.
 pub data IsTurn : Phase → Phase → Type 0 where
   ByCall : (d : Draw) → IsTurn Idle (Calling d)
   ByInitAck : (d : Draw) (peer : ℕ) (cookie : List ℕ) → IsTurn (Calling d) (Echoing (record { own = d.tag; peer = peer }) cookie)
@@ -58,12 +59,12 @@ pub record IsLaterEnd (e t : EndView) : Type 0 where
   pub role : has_begun e.phase ≡ true → t.role ≡ e.role
   pub terms : has_agreed e.phase ≡ true → t.terms ≡ e.terms
 
--- Of any two worlds of a run from the start, the ends of the second are those of the first, later.
+-- Of any two worlds of a run from the start, the endpoints of the second are those of the first, later.
 abbrev pub EndsFollowTheDiagram : Type 0
 EndsFollowTheDiagram = (s : Setup) (events more : List Event) (answers others : List (Option Outcome)) (w v : World) →
     Run (start s) events answers w → Run w more others v → (x : Side) → IsLaterEnd (end_of w x) (end_of v x)
 
--- And an end that is closed stays closed, for the same reason.
+-- And an endpoint that is closed stays closed, for the same reason.
 abbrev pub ClosedForGood : Type 0
 ClosedForGood = (s : Setup) (events more : List Event) (answers others : List (Option Outcome)) (w v : World) →
     Run (start s) events answers w → Run w more others v → (x : Side) (why : Ended) → (end_of w x).phase ≡ Over why → (end_of v x).phase ≡ Over why

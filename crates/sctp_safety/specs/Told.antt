@@ -40,7 +40,7 @@ pub data IsAnswered (v : SenderView) (t : ℕ) : AbandonAnswer → Type 0 where
 
 -- ---- of every view that calls reach
 
--- acknowledged is told exactly if it was
+-- acknowledged is reported exactly if it was
 abbrev pub AcknowledgedIsTold : Type 0
 AcknowledgedIsTold = (f : Format) (v : SenderView) (t : ℕ) → IsReached f v → (acknowledged v t ≡ true) ↔ WasAcknowledged v t
 

@@ -1,5 +1,5 @@
--- One direction of an association, and the moves that change it, each as loose as safety allows.
--- Timers, windows, room, what is due, and the order of filling only choose among moves; they don't appear here.
+-- One direction of an association, and the moves that change it, each as loose as safety allows. Timers, windows, space, what is due, and the order of
+-- filling only choose among moves; they don't appear here.
 use Rattle.std.specs.Prelude.{◌≡◌, ℕ, suc, ◌+◌, ◌<◌, ◌≤◌, ◌⊎◌, max, ◌||◌, true, false, nat_le, List, [], ◌∷◌, ◌++◌, length, Some}
 use Rattle.sctp_model.specs.numbers.Lists.{Has, IsWithin, at}
 use Rattle.sctp_model.specs.messages.Format.{Format, Plain, Ordered, Unordered, Lane, is_numbered, ordered_lane, at_lane}
@@ -14,11 +14,11 @@ use Rattle.sctp_model.specs.receiver.Receiving.{IsWholeNumber, HasNoWhole, witho
 use Rattle.sctp_model.specs.world.Calls.{Call, Asked}
 use Rattle.sctp_model.specs.world.Safe.{IsGivenUp}
 
--- A sender, the receiver at its peer, what its user asked for, and every chunk that was ever built for it: chunks with data and FORWARDs
--- one way, SACKs and the cumulative indexes of SHUTDOWNs the other. Nothing is ever taken out: a loss is a chunk that never comes.
+-- A sender, the receiver at its peer, what its user asked for, and every chunk that was ever built for it: chunks with data and FORWARDs one way, SACKs and
+-- the cumulative indexes of SHUTDOWNs the other. Nothing is ever taken out: a loss is a chunk that never arrives.
 pub record Way : Type 0 where
   pub format : Format
-  -- the streams that both ends agreed on
+  -- the streams that both endpoints agreed on
   pub streams : ℕ
   pub sender : SenderView
   pub receiver : ReceiverView
@@ -30,7 +30,7 @@ pub record Way : Type 0 where
 
 -- Everything that may happen to one direction. `Step`, below, says of each when it may and where it leads.
 pub data Move : Type 0 where
-  -- the user of the sending end
+  -- the user of the sending endpoint
   Send : (call : Call) (fragments : List (List ℕ)) → Move
   Name : (ticket : ℕ) → Move
   Time_passes : (moment : ℕ) → Move
@@ -69,7 +69,7 @@ with_sender w a = record w { sender = a }
 abbrev pub with_receiver : Way → ReceiverView → Way
 with_receiver w r = record w { receiver = r }
 
--- no message of the stream stands in this part of the queue
+-- no message of the stream is in this part of the queue
 abbrev pub HasNone : List Queued → ℕ → Type 0
 HasNone qs s = (q : Queued) → Has qs q → q.lane.stream ≡ s → ⊥
 
@@ -192,7 +192,7 @@ Step w (Pass_over s) v =
     × (v ≡ with_receiver w (past w.receiver s))
 Step w (Drop_below_next s) v =
     v ≡ with_receiver w (record w.receiver { kept = without_below w.receiver.kept s (w.receiver.next s) })
--- Unordered chunks that a FORWARD left behind go, if they are of no whole message.
+-- Unordered chunks that a FORWARD passed go, if they are of no whole message.
 Step w (Let_go t) v = LetsGo w.format w.receiver t × (v ≡ with_receiver w t)
 Step w (Take s h rest) v =
     (w.receiver.waiting s ≡ h ∷ rest)

@@ -1,4 +1,4 @@
-//! What the two ends really build and take are things that the moves allow.
+//! What the two endpoints really build and take are things that the moves allow.
 
 ghost use Rattle.sctp_safety.specs.Exact.{ForwardIsAllowed, ForwardIsMoves, PassingIsMoves, SackIsAllowed, ShutdownIsAllowed, TakingIsMoves};
 ghost use Rattle.sctp_safety.specs.ReceiverLaws.{ForwardTakenIsMoves, PieceTakenIsMoves, SackMadeIsMoves, TakeIsMoves};
@@ -34,7 +34,8 @@ pub fn forward_is_moves()
     ensures { ForwardIsMoves }
 {}
 
-/// What a packet is filled with goes out by moves, under both formats: each fragment takes its number and its index, and its chunk is put between the ends (RFC 9260, 6.1 and 6.9; RFC 8260, 2.2).
+/// What a packet is filled with goes out by moves, under both formats: each fragment takes its number and its index, and its chunk is put between the
+/// endpoints (RFC 9260, 6.1 and 6.9; RFC 8260, 2.2).
 pub fn fill_is_moves()
     ensures { FillIsMoves }
 {}
@@ -49,7 +50,7 @@ pub fn abandon_is_moves()
     ensures { AbandonIsMoves }
 {}
 
-/// What is past its time is given up by moves, at a moment that the clock has reached.
+/// What is past its time is given up by moves, at a time that the clock has reached.
 pub fn expire_is_moves()
     ensures { ExpireIsMoves }
 {}
@@ -59,7 +60,7 @@ pub fn marking_is_moves()
     ensures { MarkingIsMoves }
 {}
 
-/// A SACK that lies between the ends, and is taken, is moves, as long as its index lies less than half the space from CUM (RFC 9260, 6.2.1).
+/// A SACK that lies between the endpoints, and is taken, is moves, as long as its index lies less than half the space from CUM (RFC 9260, 6.2.1).
 pub fn sack_is_moves()
     ensures { SackIsMoves }
 {}
@@ -69,9 +70,9 @@ pub fn shutdown_is_moves()
     ensures { ShutdownIsMoves }
 {}
 
-/// A data chunk that lies between the ends is taken by moves, whatever is answered to it, and nothing is due afterwards: its TSN and its SSN or MID
-/// are read as they were written, as long as the indexes past CUM lie within the window, and this one and its MID within half their space of
-/// what the receiver waits for (RFC 9260, 6.2 and 6.6; RFC 8260, 2.2).
+/// A data chunk that lies between the endpoints is taken by moves, whatever is answered to it, and nothing is due afterwards: its TSN and its SSN or MID
+/// are read as they were written, as long as the indexes past CUM lie within the window, and this one and its MID within half their space of what the
+/// receiver waits for (RFC 9260, 6.2 and 6.6; RFC 8260, 2.2).
 pub fn piece_taken_is_moves()
     ensures { PieceTakenIsMoves }
 {}
@@ -81,7 +82,7 @@ pub fn forward_taken_is_moves()
     ensures { ForwardTakenIsMoves }
 {}
 
-/// The SACK that a receiver makes may be put between the ends (RFC 9260, 6.2).
+/// The SACK that a receiver makes may be put between the endpoints (RFC 9260, 6.2).
 pub fn sack_made_is_moves()
     ensures { SackMadeIsMoves }
 {}

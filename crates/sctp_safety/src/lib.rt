@@ -1,4 +1,4 @@
-//! Safety of one direction of an association, over every list of moves, and of both directions in every world of two ends.
+//! Safety of one direction of an association, over every list of moves, and of both directions in every world of two endpoints.
 //!
 //! No function here does anything: each carries a theorem as its contract.
 #![tactic(auto)]

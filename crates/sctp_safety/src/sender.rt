@@ -1,14 +1,15 @@
 //! What a sender's calls keep, whatever its peer says.
 
-ghost use Rattle.sctp_safety.specs.SenderCalls.{AbandonedOnlyAsked, AbandonsItsOwnAlone, DrainedIsTold, EachPlanHasOneForward, EachViewHasOneFill, EachViewHasOnePoint, ForwardEndIsGiven, ForwardIsGiven, PlanStaysOrderly, NoneGoesTooOften};
+ghost use Rattle.sctp_safety.specs.SenderCalls.{AbandonedOnlyAsked, AbandonsItsOwnAlone, DrainedIsTold, EachPlanHasOneForward, EachViewHasOneFill};
+ghost use Rattle.sctp_safety.specs.SenderCalls.{EachViewHasOnePoint, ForwardEndIsGiven, ForwardIsGiven, PlanStaysOrderly, NoneGoesTooOften};
 
-/// The plan of every view that calls reach is orderly, under both formats, whatever SACKs came (RFC 9260, 6.6 and 6.9; RFC 8260, 2.2).
+/// The plan of every view that calls reach is orderly, under both formats, whatever SACKs arrived (RFC 9260, 6.6 and 6.9; RFC 8260, 2.2).
 pub fn plan_stays_orderly()
     ensures { PlanStaysOrderly }
 {}
 
-/// A message is abandoned by a call that names its ticket, if its lifetime is over, or if it was retransmitted as often as it may be, and by nothing else (RFC 3758,
-/// 3.5; RFC 7496, 3.1).
+/// A message is abandoned by a call that names its ticket, if its lifetime is over, or if it was retransmitted as often as it may be, and by nothing else
+/// (RFC 3758, 3.5; RFC 7496, 3.1).
 pub fn abandoned_only_asked()
     ensures { AbandonedOnlyAsked }
 {}
@@ -27,7 +28,7 @@ pub fn each_call_has_one_result()
     ensures upto { ForwardEndIsGiven }
 {}
 
-/// A sender is told drained just if nothing waits, nothing is in part, and all that has an index is acknowledged (RFC 9260, 9.2).
+/// A sender is reported drained just if nothing waits, nothing is in part, and all that has an index is acknowledged (RFC 9260, 9.2).
 pub fn drained_is_told()
     ensures { DrainedIsTold }
 {}

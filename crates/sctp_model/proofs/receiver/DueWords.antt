@@ -1,4 +1,4 @@
--- The walk over a stream's numbers ends where the words say, and hands over what they say; and they say it of one list alone.
+-- The walk over a stream's numbers ends where the words say, and delivers what they say; and they say it of one list alone.
 use Rattle.std.proofs.Common.{◌≡◌, ℕ, suc, ◌<◌, ◌≤◌, List, ◌∷◌, Option, Some, ap, sym, ◌∙◌, subst, inl, inr, arith}
 use Rattle.std.proofs.lemmas.Bool.{cases_lt}
 use Rattle.sctp_model.specs.numbers.Lists.{Has}
@@ -56,7 +56,7 @@ module _ (f : Format) (r : ReceiverView) (s : ℕ) where
   ]
   ends_by _ _ _ (Past n m ms below none more) k (from, above, unmade) = ends_by (suc n) ms m more k (omega (arith, below, above), above, unmade)
 
-  -- ---- what it hands over
+  -- ---- what it delivers
 
   passed_each : (n : ℕ) (ms : List Handed) (m : ℕ) → IsDue f r s n ms m → (h : Handed) → Has ms h → IsPassedWhole f r s n m h
   passed_each _ _ _ (Stop n high none) h there = absurd there

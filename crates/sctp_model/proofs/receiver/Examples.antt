@@ -10,7 +10,7 @@ use Rattle.sctp_model.specs.receiver.Reading.{number_in, piece_at}
 use Rattle.sctp_model.specs.receiver.PieceTaken.{Duplicate, Ahead, NoSuchStream, Passed, NoRoom, Kept, answer_to, noted}
 use Rattle.sctp_model.specs.receiver.ForwardTaken.{forward_answer, skips_read, OutOfDate, Bad}
 
--- the first TSN is 4,294,967,295, there are two streams and three bytes of room, and each stream waits for number 65,534
+-- the first TSN is 4,294,967,295, there are two streams and three bytes of buffer, and each stream waits for number 65,534
 abbrev view : ReceiverView
 view = record (fresh_receiver 4294967295 2 3) { next = λ s. 65534 }
 
@@ -27,14 +27,14 @@ chunk tsn stream number bytes = record {
   bytes = bytes;
 }
 
--- the second chunk comes first, over the wrap of the TSN and of the SSN
+-- the second chunk arrives first, over the wrap of the TSN and of the SSN
 second_is_taken : answer_to Plain view 0 (chunk 0 0 65535 (1 ∷ [])) ≡ Kept
 second_is_taken = refl
 
 second_index : (piece_at Plain view 0 (chunk 0 0 65535 (1 ∷ []))).index ≡ 2
 second_index = refl
 
--- SSN 1 is the number 65,537 here, and 65,533 lies behind
+-- SSN 1 is the number 65,537 here, and 65,533 is too late
 over_the_wrap : number_in Plain view (ordered_lane 0) 1 ≡ Some 65537
 over_the_wrap = refl
 
@@ -50,11 +50,11 @@ came_again = refl
 past_the_window : answer_to Plain view 0 (chunk 32767 0 65535 (1 ∷ [])) ≡ Ahead
 past_the_window = refl
 
--- a stream that isn't there counts before a number that lies behind
+-- a stream that isn't there counts before a number that is too late
 no_such_stream : answer_to Plain view 0 (chunk 0 2 65533 (1 ∷ [])) ≡ NoSuchStream
 no_such_stream = refl
 
--- room for exactly three bytes
+-- space for exactly three bytes
 three_fit : answer_to Plain view 0 (chunk 0 0 65535 (1 ∷ 2 ∷ 3 ∷ [])) ≡ Kept
 three_fit = refl
 
@@ -65,7 +65,7 @@ four_dont = refl
 largest_is_none : answer_to Interleaved (record view { next = λ s. 18446744073709551610 }) 0 (chunk 0 0 4294967295 (1 ∷ [])) ≡ Passed
 largest_is_none = refl
 
--- 2^32 - 1 is a number, and so are those behind it, whose MIDs begin again at 0
+-- 2^32 - 1 is a number, and so are those after it, whose MIDs begin again at 0
 last_before_the_wrap : number_in Interleaved (record view { next = λ s. 4294967290 }) (ordered_lane 0) 4294967295 ≡ Some 4294967295
 last_before_the_wrap = refl
 
@@ -91,7 +91,7 @@ fragment_again : answer_to Interleaved (record view { kept = held ∷ [] }) 0 (r
 unfolding held
 fragment_again = refl
 
--- An unordered MID is read near the largest number of its stream: of a chunk that is kept, of a message that was handed over, or that was skipped.
+-- An unordered MID is read near the largest number of its stream: of a chunk that is kept, of a message that was delivered, or that was skipped.
 told : Handed
 told = record { first = 9; lane = unordered_lane 1; number = Some 2147483650; payload = 0; bytes = [] }
 
@@ -125,7 +125,7 @@ other_stream_is_bad = refl
 far_is_bad : forward_answer view 0 (record { cumulative = 40000; skips = [] }) ≡ Bad
 far_is_bad = refl
 
--- of two numbers of a stream the larger one counts, over the wrap of the SSN; one that lies behind doesn't; a MID half the space away has no number
+-- of two numbers of a stream the larger one counts, over the wrap of the SSN; one that is too late doesn't; a MID half the space away has no number
 abbrev entry : ℕ → ℕ → SkipMeaning
 entry stream number = record { stream = stream; unordered = false; number = number }
 

@@ -1,11 +1,11 @@
--- Filters of kept chunks: one behind another, those that agree, one that all pass.
+-- Filters of kept chunks: one after another, those that agree, one that all pass.
 use Rattle.std.proofs.Common.{◌≡◌, ◌⊎◌, Bool, true, false, List, [], ◌∷◌, filter, refl, ap, sym, ◌∙◌, inl, inr}
 use Rattle.std.specs.Prelude.{◌&&◌}
 use Rattle.std.proofs.lemmas.Bool.{cases_Bool}
 use Rattle.sctp_model.specs.numbers.Lists.{Has}
 use Rattle.sctp_model.specs.messages.Pieces.{Piece}
 
--- one filter behind another
+-- one filter after another
 pub filter_both : (one other : Piece → Bool) (kept : List Piece) → filter other (filter one kept) ≡ filter (λ (x : Piece). one x && other x) kept
 filter_both one other [] = refl
 filter_both one other (x ∷ kept) = go (cases_Bool (one x)) (cases_Bool (other x)) (filter_both one other kept)

@@ -21,7 +21,7 @@ use Rattle.sctp_model.proofs.receiver.Giving.{none_with_fewer, AreServed, all_se
 
 -- ---- the streams that a FORWARD names
 
--- each entry that counts is of a stream below the bound where none names another one
+-- each entry that counts is of a stream below the bound if none names another one
 pub skips_below : (f : Format) (r : ReceiverView) (n : ℕ) (xs : List SkipMeaning) → names_other_stream n xs ≡ false → (y : Skip) → Has (skips_read f r xs) y → y.lane.stream < n
 skips_below f r n [] named y there = absurd there
 skips_below f r n (x ∷ xs) named y there = by (number_in f r (lane_of x.stream x.unordered) x.number) there (skips_below f r n xs parts.1 y)
@@ -117,7 +117,7 @@ forward_at_rest f r x a t rest taken = record {
 
 -- ---- what is let go
 
--- At rest no unordered message is whole, so letting go of all that is left behind lets go of what can't become whole alone.
+-- At rest no unordered message is whole, so letting go of all that is passed lets go of what can't become whole alone.
 pub let_go_is : (f : Format) (r : ReceiverView) → ((y : Piece) → y.lane.kind ≡ Unordered → HasNoWholeWith f r.kept y) → LetsGo f r (let_go f r)
 let_go_is f r rest = record {
   stays = λ (x : Piece). stays_by x.lane.kind f r x;

@@ -1,4 +1,4 @@
--- What handing over leaves as it was, and what it settles: the streams that were served wait, and no chunk lies behind.
+-- What delivery leaves as it was, and what it settles: the streams that were served wait, and no chunk is below their next numbers.
 use Rattle.std.proofs.Common.{◌≡◌, ℕ, zero, suc, ◌<◌, ◌≤◌, ◌⊎◌, ◌==◌, Bool, true, false, List, [], ◌∷◌, filter, refl, ap, sym, ◌∙◌, subst, inl, inr, arith, eqb-true}
 use Rattle.std.specs.Prelude.{not}
 use Rattle.std.proofs.lemmas.Bool.{cases_Bool, cases_eq, eq-eqb}
@@ -40,7 +40,7 @@ none_fewer f kept fewer l n within none xs (whole, inside, number) = none xs (wh
 pub none_with_fewer : (f : Format) (kept fewer : List Piece) (y : Piece) → IsWithin fewer kept → HasNoWholeWith f kept y → HasNoWholeWith f fewer y
 none_with_fewer f kept fewer y within none xs (whole, inside, has) = none xs (whole, (λ z there. within z (inside z there)), has)
 
--- ---- what handing over leaves as it was
+-- ---- what delivering leaves as it was
 
 pub record IsGiving (r t : ReceiverView) : Type 0 where
   pub seen : t.seen ≡ r.seen
@@ -100,7 +100,7 @@ served f s r t (ms, n, due, is) = subst (IsServed f s r) (sym is) (record {
     not_true true e = absurd (cc)
     not_true false e = refl
 
--- A stream waits as before where its numbers are as they were and fewer chunks are kept, and no chunk lies behind.
+-- A stream waits as before if its numbers are as they were and fewer chunks are kept, and no chunk is below the next number.
 pub still_waiting : (f : Format) (r t : ReceiverView) (s : ℕ) → IsWithin t.kept r.kept → t.next s ≡ r.next s → t.skip (ordered_lane s) ≡ r.skip (ordered_lane s) → IsWaiting f r s → IsWaiting f t s
 still_waiting f r t s fewer next skip waits = record {
   passed = omega (arith, waits.passed, next, skip);

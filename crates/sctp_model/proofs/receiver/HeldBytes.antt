@@ -1,4 +1,4 @@
--- What is held never passes the buffer: a chunk is taken only where it fits, and handing over, letting go and taking need no room.
+-- What is held never passes the buffer: a chunk is taken only if it fits, and delivering, letting go and taking need no space.
 use Rattle.std.proofs.Common.{◌≡◌, ℕ, zero, suc, ◌+◌, ◌<◌, ◌≤◌, ◌⊎◌, nat_le, Bool, true, false, List, [], ◌∷◌, ◌++◌, length, filter, Option, Some, None, refl, ap, sym, ◌∙◌, subst, inl, inr, arith}
 use Rattle.std.proofs.lemmas.Bool.{cases_eq, cases_lt}
 use Rattle.std.proofs.lemmas.Bool.Decides.{nat_tests}
@@ -47,14 +47,14 @@ waiting_at w s v (suc n) there = go (cases_eq n s) (waiting_at w s v n)
         let here : size_of_messages (at w s v n) ≡ size_of_messages (w n) = ap size_of_messages (at_elsewhere w s v n ne) in
         omega (arith, rest, here)
 
--- messages put behind those that wait add no more than their size
+-- messages put after those that wait add no more than their size
 waiting_more : (w : ℕ → List Handed) (s : ℕ) (ms : List Handed) (n : ℕ) → size_of_waiting (at w s (w s ++ ms)) n ≤ size_of_waiting w n + size_of_messages ms
 waiting_more w s ms n = elim (cases_lt s n) [
   | inl there ↦ let sum = waiting_at w s (w s ++ ms) n there in let both = messages_both (w s) ms in omega (arith, sum, both)
   | inr past ↦ let same = elsewhere w s (w s ++ ms) n past in omega (arith, same)
 ]
 
--- ---- handing over
+-- ---- delivering
 
 -- nothing more is held, of as many streams and the same buffer
 pub record HoldsNoMore (r t : ReceiverView) : Type 0 where

@@ -1,4 +1,4 @@
--- Where nothing is due, giving changes nothing.
+-- If nothing is due, giving changes nothing.
 use Rattle.std.proofs.Common.{◌≡◌, ℕ, zero, suc, ◌⊎◌, Bool, true, false, ◌==◌, List, [], ◌∷◌, ◌++◌, filter, refl, ap, sym, ◌∙◌, subst, inl, inr, arith}
 use Rattle.std.specs.Prelude.{not}
 use Rattle.std.proofs.Math.Path.{fun_ext}
@@ -11,7 +11,7 @@ use Rattle.sctp_model.specs.receiver.ReceiverView.{ReceiverView}
 use Rattle.sctp_model.specs.receiver.Receiving.{HasNoWhole, HasNoWholeWith, Stop, is_below, without_below, GivesOrdered, GivesAll}
 use Rattle.sctp_model.specs.receiver.Laws.{IsIdle, IsSettled}
 
--- ---- giving where nothing is due
+-- ---- giving if nothing is due
 
 at_same : {A : Type 0} (g : ℕ → A) (s : ℕ) (v : A) → v ≡ g s → (q : ℕ) → g q ≡ at g s v q
 at_same g s v e q = go (cases_Bool (q == s))

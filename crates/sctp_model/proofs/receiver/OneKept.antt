@@ -1,4 +1,4 @@
--- One chunk more is kept, and what is due with it is handed over: the view waits as it should.
+-- One chunk more is kept, and what is due with it is delivered: the view waits as it should.
 use Rattle.std.proofs.Common.{◌≡◌, ℕ, ◌⊎◌, List, [], ◌∷◌, refl, ap, sym, ◌∙◌, subst, inl, inr}
 use Rattle.std.specs.Prelude.{not}
 use Rattle.std.proofs.lemmas.Bool.{cases_eq}
@@ -34,7 +34,7 @@ none_with_other f y kept l n other none (x ∷ xs) (whole, within, (lane, number
   | inr old ↦ none (x ∷ xs) (whole, old, (lane, number))
 ]
 
--- the view with the chunk recorded and kept, before anything is handed over
+-- the view with the chunk recorded and kept, before anything is delivered
 abbrev pub with_chunk : ReceiverView → Piece → ReceiverView
 with_chunk r x = record (recorded r x) { kept = x ∷ r.kept }
 
@@ -64,7 +64,7 @@ module _ (f : Format) (r t : ReceiverView) (x : Piece) where
       g : IsGiving (with_chunk r x) t
       g = giving_ordered f x.lane.stream (with_chunk r x) t gives
 
-  -- an unordered chunk leaves all streams waiting, and its message is handed over where it is whole
+  -- an unordered chunk leaves all streams waiting, and its message is delivered if it is whole
   unordered_idle : x.lane.kind ≡ Unordered → IsIdle f r → GivesUnordered f x (with_chunk r x) t → IsIdle f t
   unordered_idle kind idle gives = record {
     ordered = λ u. still_waiting f (with_chunk r x) t u g.fewer (ap (λ (k : ℕ → ℕ). k u) (next gives)) (ap (λ (k : Lane → ℕ). k (ordered_lane u)) g.skip) (record {

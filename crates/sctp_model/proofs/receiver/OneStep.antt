@@ -1,4 +1,4 @@
--- From a view as calls leave it each step leads to one view: what is handed over, a chunk taken, a FORWARD taken.
+-- From a view as calls leave it each step leads to one view: what is delivered, a chunk taken, a FORWARD taken.
 use Rattle.std.proofs.Common.{◌≡◌, ℕ, zero, suc, ◌⊎◌, Bool, true, false, ◌==◌, nat_le, List, [], ◌∷◌, filter, Option, Some, None, refl, ap, sym, ◌∙◌, subst, inl, inr, arith}
 use Rattle.std.specs.Prelude.{◌&&◌}
 use Rattle.std.proofs.lemmas.Bool.{cases_Bool, cases_order, or_parts, eq-eqb}
@@ -28,7 +28,7 @@ cumulative_only r c d h k = elim (cases_order c d) [
 abbrev pub HasOne : (ReceiverView → Type 0) → Type 0
 HasOne step = (t u : ReceiverView) → step t → step u → t ≡ u
 
--- ---- what is due is handed over
+-- ---- what is due is delivered
 
 module _ (f : Format) (r : ReceiverView) (apart : IsFilledOnce f r.kept) where
   pub ordered_only : (s : ℕ) → HasOne (GivesOrdered f s r)

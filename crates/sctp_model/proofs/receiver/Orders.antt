@@ -13,7 +13,7 @@ module _ {A : Type 0} (R : A → A → Type 0) where
   first_is x y xs ys strict up rise (inr here) (inl same) = same
   first_is x y xs ys strict up rise (inr here) (inr there) = absurd (strict x y (inr here) (inl refl) (up.0 y there) (rise.0 x here))
 
-  -- and what stands behind the one stands behind the other
+  -- and what is after the one is after the other
   rest_within : (x y : A) (xs ys : List A) → x ≡ y → IsStrict (y ∷ ys) → AreInOrder R (x ∷ xs) → IsWithin (x ∷ xs) (y ∷ ys) → IsWithin xs ys
   rest_within x y xs ys same strict up within z there = behind (within z (inr there))
     where

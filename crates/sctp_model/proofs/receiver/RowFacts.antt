@@ -39,7 +39,7 @@ row_rises f x [] y row there = absurd there
 row_rises f x (w ∷ ws) y row (inl is) = let next = follows_next f x w row.1 in let same : place f w ≡ place f y = ap (place f) is in omega (arith, next, same)
 row_rises f x (w ∷ ws) y row (inr there) = let next = follows_next f x w row.1 in let more = row_rises f w ws y row.2 there in omega (arith, next, more)
 
--- no chunk stands in the list again
+-- no chunk is in the list again
 abbrev pub AreDistinct : {A : Type 0} → List A → Type 0
 AreDistinct {A} = AreInOrder (λ (x y : A). x ≡ y → ⊥)
 

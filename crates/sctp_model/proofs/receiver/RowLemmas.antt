@@ -8,7 +8,7 @@ module _ {A : Type 0} where
   row_fails true other rest answer is differ = absurd (differ is)
   row_fails false other rest answer is differ = (refl, is)
 
-  -- A row holds where its answer was given, and the rows below don't give it.
+  -- A row holds if its answer was given, and the rows below don't give it.
   pub row_holds : (holds : Bool) (answer rest : A) → (if holds then answer else rest) ≡ answer → (rest ≡ answer → ⊥) → holds ≡ true
   row_holds true answer rest is none = refl
   row_holds false answer rest is none = absurd (none is)

@@ -1,4 +1,4 @@
--- What is handed over was among what is kept no longer: giving never takes more room.
+-- What is delivered was among what is kept no longer: giving never takes more space.
 use Rattle.std.proofs.Common.{◌≡◌, ℕ, suc, ◌+◌, ◌≤◌, ◌⊎◌, nat_lt, Bool, true, false, List, [], ◌∷◌, ◌++◌, filter, length, Option, Some, refl, ap, sym, ◌∙◌, subst, inl, inr, arith}
 use Rattle.std.specs.Prelude.{not, ◌&&◌}
 use Rattle.std.proofs.lemmas.Bool.{cases_Bool}
@@ -71,7 +71,7 @@ module _ (stays stood : Piece → Bool) (fewer : (x : Piece) → stays x ≡ tru
       length k.bytes + n + size_of_pieces (filter stays (k ∷ ks)) ≤ size_of_pieces (filter stood (k ∷ ks))
   one_gone k ks n goes was less = rw (goes, was) (omega (arith, less))
 
-  -- Chunks that stood and don't stay, each once, and those that stay: together no more than those that stood.
+  -- Chunks that were there and don't stay, each once, and those that stay: together no more than those that were there.
   pub gone_size : (kept ys : List Piece) → AreDistinct ys → IsWithin ys kept → ((y : Piece) → Has ys y → (stood y ≡ true) × (stays y ≡ false)) →
       size_of_pieces ys + size_of_pieces (filter stays kept) ≤ size_of_pieces (filter stood kept)
   gone_size [] [] distinct within goes = omega arith

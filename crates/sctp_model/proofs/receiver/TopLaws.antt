@@ -28,7 +28,7 @@ number_other : (l k : Lane) (o : Option ℕ) → same_lane k l ≡ false → num
 number_other l k None other = refl
 number_other l k (Some n) other = rw other refl
 
--- it is at most this, where each number of such a chunk is
+-- it is at most this, if each number of such a chunk is
 number_most : (l k : Lane) (o : Option ℕ) (m : ℕ) → ((n : ℕ) → o ≡ Some n → same_lane k l ≡ true → n ≤ m) → number_on l k o ≤ m
 number_most l k None m most = omega arith
 number_most l k (Some n) m most = elim (cases_Bool (same_lane k l)) [
@@ -78,7 +78,7 @@ kept_reaches l (y ∷ ys) x (inl is) =
     omega (arith, same)
 kept_reaches l (y ∷ ys) x (inr there) = let more = kept_reaches l ys x there in omega (arith, more)
 
--- where only chunks go whose numbers are at most m, the largest stays beside m
+-- if only chunks go whose numbers are at most m, the largest stays beside m
 kept_beside : (l : Lane) (stays : Piece → Bool) (kept : List Piece) (m : ℕ) → ((y : Piece) → Has kept y → stays y ≡ false → number_on l y.lane y.number ≤ m) →
     max m (largest_kept l (filter stays kept)) ≡ max m (largest_kept l kept)
 kept_beside l stays [] m low = refl
@@ -88,9 +88,9 @@ kept_beside l stays (x ∷ xs) m low = go (cases_Bool (stays x)) (kept_beside l 
     go (inl here) more = rw here (omega (arith, more))
     go (inr gone) more = let least = low x (inl refl) gone in rw gone (omega (arith, more, least))
 
--- ---- messages that wait behind others
+-- ---- messages that wait after others
 
--- the numbers told on a stream, where messages came behind those of stream s
+-- the numbers of a stream's messages, if messages were put after those of stream s
 handed_more : (l : Lane) (r : ReceiverView) (s : ℕ) (ms : List Handed) (q : ℕ) →
     largest_handed l (r.taken q ++ at r.waiting s (r.waiting s ++ ms) q) ≡ (if q == s then max (largest_handed l (handed r q)) (largest_handed l ms) else largest_handed l (handed r q))
 handed_more l r s ms q = elim (cases_eq q s) [
@@ -110,7 +110,7 @@ handed_more l r s ms q = elim (cases_eq q s) [
 pub top_kept : (r : ReceiverView) (x : Piece) (q : ℕ) → top (record (recorded r x) { kept = x ∷ r.kept }) q ≡ max (top r q) (number_on (unordered_lane q) x.lane x.number)
 top_kept r x q = omega arith
 
--- ---- ordered messages that are handed over
+-- ---- ordered messages that are delivered
 
 due_lane : (f : Format) (r : ReceiverView) (s n m : ℕ) (ms : List Handed) → IsDue f r s n ms m → (h : Handed) → Has ms h → h.lane ≡ ordered_lane s
 due_lane f r s n m [] (Stop _ low none) h there = absurd there
@@ -118,7 +118,7 @@ due_lane f r s n m (k ∷ ms) (GivesWhole _ _ x xs _ whole lowest rest) h (inl e
 due_lane f r s n m (k ∷ ms) (GivesWhole _ _ x xs _ whole lowest rest) h (inr there) = due_lane f r s _ m ms rest h there
 due_lane f r s n m ms (Past _ _ _ low none rest) h there = due_lane f r s _ m ms rest h there
 
--- of an unordered lane, ordered messages say none
+-- of an unordered lane, ordered messages have none
 told_in_order : (r : ReceiverView) (s n : ℕ) (ms : List Handed) (q : ℕ) → ((h : Handed) → Has ms h → h.lane ≡ ordered_lane s) →
     largest_handed (unordered_lane q) (handed (handed_ordered r s ms n) q) ≡ largest_handed (unordered_lane q) (handed r q)
 told_in_order r s n ms q lanes = by_case (q == s) (handed_more (unordered_lane q) r s ms q)
@@ -169,9 +169,9 @@ top_taken r s (Some h) t q (rest, waits, is) = ap (λ (v : ReceiverView). top v 
       | inr other ↦ let taken = at_elsewhere r.taken s (r.taken s ++ h ∷ []) q other in let left = at_elsewhere r.waiting s rest q other in rw (taken, left) refl
     ]
 
--- ---- an unordered message that is handed over
+-- ---- an unordered message that is delivered
 
--- chunks that go with it say its number, where they are of its lane
+-- chunks that go with it say its number, if they are of its lane
 goes_low : (l : Lane) (x : Piece) (xs : List Piece) (y : Piece) → goes_with Interleaved (x ∷ xs) y ≡ true → number_on l y.lane y.number ≤ number_on l x.lane x.number
 goes_low l x xs y goes =
     let parts = and_parts (same_lane y.lane x.lane) (same_number y.number x.number) goes in

@@ -35,7 +35,7 @@ lanes_same a b is =
 
 -- ---- without a number
 
--- where no message has the ticket, none is taken out
+-- if no message has the ticket, none is taken out
 pub without_none : (t : ℕ) (qs : List Queued) → waits t qs ≡ false → without t qs ≡ qs
 without_none t [] off = refl
 without_none t (q ∷ qs) off = by_test (q.message.ticket == t) off (λ rest. without_none t qs rest)
@@ -58,7 +58,7 @@ may_be_given v n is =
     off true on = absurd (cc)
     off false on = refl
 
--- What is so of a view is so after a ticket is abandoned, where it is so after a withdrawal and after a message with a number is given up.
+-- What is so of a view is so after a ticket is abandoned, if it is so after a withdrawal and after a message with a number is given up.
 pub after_abandon : (P : SenderView → Type 0) (v : SenderView) (t : ℕ) → P v → (waits t v.queue ≡ true → P (record v { queue = without t v.queue }))
     → ((n : Name) → name_of v t ≡ Some n → is_abandoned v n ≡ false → P (with_abandoned v n)) → P (abandon_after v t)
 after_abandon P v t same withdrawn given = by_name (name_of v t) refl
@@ -100,7 +100,7 @@ given_or_before v n l k on = by_lane (same_lane l n.lane) refl on
     by_lane true same here = by_number (k == n.number) refl (lanes_same l n.lane same) here
     by_lane false other here = inr here
 
--- another message is abandoned where it was
+-- another message is abandoned if it was before
 pub given_other : (v : SenderView) (n : Name) (l : Lane) (k : ℕ) → ((l ≡ n.lane) × (k ≡ n.number) → ⊥) → (with_abandoned v n).abandoned l k ≡ v.abandoned l k
 given_other v n l k ne = by_lane (same_lane l n.lane) refl
   where

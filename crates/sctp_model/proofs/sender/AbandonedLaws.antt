@@ -1,4 +1,4 @@
--- A message is abandoned only by a call that names its ticket, or where its time is past: no SACK, no timer, no packet filled abandons one.
+-- A message is abandoned only by a call that names its ticket, or if its time is past: no SACK, no timer, no packet filled abandons one.
 use Rattle.std.proofs.Common.{◌≡◌, ℕ, ◌⊎◌, inl, inr, List, [], ◌∷◌, Bool, true, false, Option, Some, None, refl, sym, ap, ◌∙◌, subst}
 use Rattle.std.specs.Prelude.{◌==◌, ◌||◌, if◌then◌else◌, slice_get, fold, find, is_some, option_map, option_and_then}
 use Rattle.sctp_model.specs.messages.Format.{Format, Lane}
@@ -64,7 +64,7 @@ only_given f v t n h is l k on =
 pub abandons_by_ticket : (f : Format) (v : SenderView) (t : ℕ) → IsReached f v → OnlyOf v t (abandon_after v t)
 abandons_by_ticket f v t h = after_abandon (OnlyOf v t) v t (λ l n on. inl on) (λ waiting l n on. inl on) (λ n is kept. only_given f v t n h is)
 
--- ---- where its time is past
+-- ---- if its time is past
 
 -- messages stay where they are
 abbrev pub SameMessages : SenderView → SenderView → Type 0

@@ -1,4 +1,5 @@
--- If `abandon` answers that the message isn't given up, it changes nothing; and a message is abandoned only if partial reliability was agreed on (RFC 3758, 3.5).
+-- If `abandon` answers that the message isn't given up, it changes nothing; and a message is abandoned only if partial reliability was agreed on (RFC 3758,
+-- 3.5).
 use Rattle.std.proofs.Common.{◌≡◌, ℕ, ◌<◌, ◌≤◌, List, [], ◌∷◌, Bool, true, false, Option, Some, None, refl, sym, ap, ◌∙◌, subst, arith}
 use Rattle.std.specs.Prelude.{not, ◌&&◌, ◌||◌, nat_lt, nat_le, if◌then◌else◌, unwrap_or, option_map}
 use Rattle.std.specs.Option.{option_map_or}
@@ -45,7 +46,7 @@ module _ (v : SenderView) (t : ℕ) where
 pub gives_nothing : (f : Format) (v : SenderView) (t : ℕ) → IsReached f v → gives_up (abandon_answer v t) ≡ false → abandon_after v t ≡ v
 gives_nothing f v t h off = by_name v t (is_ticketed f v h) (name_of v t) refl off
 
--- ---- only where partial reliability was agreed on
+-- ---- only if partial reliability was agreed on
 
 abbrev IsAgreedOn : SenderView → Type 0
 IsAgreedOn v = (l : Lane) (n : ℕ) → v.abandoned l n ≡ true → v.partial ≡ true

@@ -1,4 +1,4 @@
--- Where the indexes of a view that calls reach may stand: CUM within the plan, all covered up to it, and nothing is said of an index beyond the plan.
+-- Where the indexes of a view that calls reach may be: CUM within the plan, all covered up to it, and nothing is said of an index beyond the plan.
 use Rattle.std.proofs.Common.{◌≡◌, ℕ, zero, suc, ◌+◌, ◌<◌, ◌≤◌, inl, inr, List, [], ◌∷◌, length, Bool, true, false, Option, Some, None, refl, sym, ap, ◌∙◌, subst, arith, length-append}
 use Rattle.std.specs.Prelude.{◌==◌, nat_le, nat_lt, not, ◌&&◌, ◌||◌, if◌then◌else◌, slice_get}
 use Rattle.std.proofs.lemmas.Bool.Decides.{nat_tests}
@@ -90,7 +90,7 @@ bounded_wish f v w k full h next =
           bounded_sent w.view w.index (bounded_assigned f v w.view h u) (let at = r.index in let more = grown f v w.view full u in omega arith)
     ]
 
--- ---- the data timer marks what stands in the plan
+-- ---- the data timer marks what is in the plan
 
 beyond : (es : List Entry) (i : ℕ) → length es ≤ i → slice_get es i ≡ None
 beyond [] i le = refl
@@ -125,7 +125,7 @@ bounded_timed v test h = record {
 
 -- ---- what a SACK or a SHUTDOWN covers lies within the plan
 
--- where no block ends past the last index, none holds an index past it
+-- if no block ends past the last index, none holds an index past it
 past_none : (c last i : ℕ) (blocks : List BlockMeaning) → last < i → some_ends_past last c blocks ≡ false → in_blocks c blocks i ≡ false
 past_none c last i [] over none = refl
 past_none c last i (b ∷ blocks) over none = by_end (nat_lt last (c + b.end)) refl none (λ rest. past_none c last i blocks over rest)
@@ -175,7 +175,7 @@ shutdown_inside v wire none = by_stale (is_stale v wire) refl
     by_stale true old = let some : Some Stale ≡ None = rw old at none in absurd (cc)
     by_stale false fresh = by_beyond (is_beyond v (index_of v wire) []) fresh refl
 
--- a mark ends where the index is covered
+-- a mark ends if the index is covered
 ends_on : (b c : Bool) → c ≡ true → (b && not c) ≡ false
 ends_on true c on = rw on refl
 ends_on false c on = refl

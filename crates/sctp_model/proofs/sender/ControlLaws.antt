@@ -1,4 +1,4 @@
--- The numbers of congestion control are never 0, whatever is heard: so an end with nothing in flight is let in.
+-- The numbers of congestion control are never 0, whatever is heard: so an endpoint with nothing in flight may send.
 use Rattle.std.proofs.Common.{◌≡◌, ℕ, ◌+◌, ◌-◌, ◌*◌, ◌<◌, Bool, true, false, nat_lt, nat_le, min, max, List, [], ◌∷◌, Option, None, Some, refl, sym, subst, arith, if◌then◌else◌}
 use Rattle.std.specs.Prelude.{◌||◌, ◌==◌, option_map}
 use Rattle.std.proofs.lemmas.Bool.Decides.{nat_tests}
@@ -17,12 +17,12 @@ pub record IsControl (k : Control) : Type 0 where
   pub cwnd : 0 < k.cwnd
   pub burst : 0 < k.burst
 
--- where there is a control
+-- if there is a control
 abbrev pub IsControlled : Option Control → Type 0
 IsControlled None = Unit {0}
 IsControlled (Some k) = IsControl k
 
--- where there is a pace
+-- if there is a pace
 abbrev pub IsPaced : Option Pace → Type 0
 IsPaced None = Unit {0}
 IsPaced (Some p) = IsControlled p.control
@@ -111,7 +111,7 @@ pub sent_paced : (now : ℕ) (v u : SenderView) (ws : List Wish) (o : Option Pac
 sent_paced now v u ws None h = tt
 sent_paced now v u ws (Some p) h = mapped (rescued ws) p.control (rescued_is ws) h
 
--- ---- where nothing is in flight
+-- ---- if nothing is in flight
 
 controlled_free : (k : Control) (f : Format) (room : ℕ) (v : SenderView) → IsControl k → in_flight v ≡ 0 → room_controlled k f room v ≡ room
 controlled_free k f room v h none = subst (λ (n : ℕ). (if nat_lt n (min k.cwnd k.burst) then room else if k.rescue then room_of_repeats f (fill f room v).wishes else 0) ≡ room) (sym none)

@@ -17,7 +17,7 @@ use Rattle.sctp_model.specs.sender.Forwarding.{forward_to}
 abbrev fresh : SenderView
 fresh = fresh_sender 4294967295 2 4 100 true
 
--- three fragments on stream 0, then two on stream 1, worthless from moment 500
+-- three fragments on stream 0, then two on stream 1, worthless from time 500
 abbrev two : SenderView
 two = queued (queued fresh (ordered_lane 0) 7 (1 ∷ 2 ∷ 3 ∷ 4 ∷ 5 ∷ 6 ∷ 7 ∷ 8 ∷ 9 ∷ []) None None) (ordered_lane 1) 8 (1 ∷ 2 ∷ 3 ∷ 4 ∷ 5 ∷ []) (Some 500) None
 
@@ -123,7 +123,7 @@ next_number : (fill Interleaved 50 (queued (abandon_after given 2) (ordered_lane
     ≡ Part (ordered_lane 0) 0 0 ∷ Part (ordered_lane 1) 0 0 ∷ End (ordered_lane 0) 0 ∷ End (ordered_lane 1) 0 ∷ Part (ordered_lane 0) 1 0 ∷ []
 next_number = refl
 
--- three messages of one index each, all abandoned before a SACK came: one FORWARD to 3, naming 2
+-- three messages of one index each, all abandoned before a SACK arrived: one FORWARD to 3, naming 2
 abbrev three : SenderView
 three = (fill Plain 200 (queued (queued (queued fresh (ordered_lane 0) 0 (1 ∷ []) None None) (ordered_lane 0) 0 (2 ∷ []) None None) (ordered_lane 0) 0 (3 ∷ []) None None)).view
 

@@ -17,11 +17,11 @@ use Rattle.sctp_model.proofs.sender.WordLaws.{when_there}
 pub goes_is : (f : Format) (room : ℕ) (v : SenderView) (w : Wish) → next_wish f v ≡ Some w → may_go f room w ≡ true → goes f room v ≡ Some w
 goes_is f room v w next may = rw next (rw may refl)
 
--- none goes where the next one may not
+-- none goes if the next one may not
 pub goes_not : (f : Format) (room : ℕ) (v : SenderView) (w : Wish) → next_wish f v ≡ Some w → may_go f room w ≡ false → goes f room v ≡ None
 goes_not f room v w next may = rw next (rw may refl)
 
--- nor where there is none
+-- nor if there is none
 pub goes_none : (f : Format) (room : ℕ) (v : SenderView) → next_wish f v ≡ None → goes f room v ≡ None
 goes_none f room v next = rw next refl
 
@@ -34,7 +34,7 @@ goes_parts f room v w is = by_next (next_wish f v) refl is
         let r = when_there (may_go f room x) x w here in
         (some ∙ ap (λ (y : Wish). Some y) r.1, subst (λ (y : Wish). may_go f room y ≡ true) r.1 r.0)
 
--- it takes room
+-- it takes space
 pub room_some : (f : Format) (w : Wish) → 0 < room_of f w
 room_some Plain w = large 16 (length (bytes_of_wish w)) (omega arith)
   where
@@ -51,9 +51,9 @@ room_fits f room w may = le_of (room_of f w) room (and_parts (nat_le (room_of f 
     le_of : (a b : ℕ) → nat_le a b ≡ true → a ≤ b
     le_of a b is = grind (arith, nat_tests)
 
--- ---- one list behind another
+-- ---- one list after another
 
--- the room that wishes leave
+-- the space that wishes leave
 abbrev pub room_after : Format → (room : ℕ) → List Wish → ℕ
 room_after f room ws = fold (λ left w. left - room_of f w) room ws
 
@@ -65,7 +65,7 @@ follows_on f v u x room (w ∷ ws) xs first then = (first.0, follows_on f (gone 
 pub follows_more : (f : Format) (v u : SenderView) (room : ℕ) (ws : List Wish) (w : Wish) → Follows f v room ws u → goes f (room_after f room ws) u ≡ Some w → Follows f v room (ws ++ w ∷ []) (gone w)
 follows_more f v u room ws w first next = follows_on f v u (gone w) room ws (w ∷ []) first (next, refl)
 
--- each takes room, so there are no more than there is room
+-- each takes space, so there are no more than there are bytes of space
 pub follows_fewer : (f : Format) (v u : SenderView) (room : ℕ) (ws : List Wish) → Follows f v room ws u → length ws ≤ room
 follows_fewer f v u room [] is = omega arith
 follows_fewer f v u room (w ∷ ws) is =
@@ -120,7 +120,7 @@ stopped_is_fill f v u room ws here none = record { follows = here; longest = λ 
 
 -- ---- the function computes it
 
--- so many at most follow each other
+-- this many at most follow each other
 most_follow : (many : ℕ) (f : Format) (room : ℕ) (v : SenderView) → Follows f v room (fill_at_most many f room v).wishes (fill_at_most many f room v).view
 most_follow zero f room v = refl
 most_follow (suc many) f room v = by_goes (goes f room v) refl (λ r u. most_follow many f r u)
@@ -130,7 +130,7 @@ most_follow (suc many) f room v = by_goes (goes f room v) refl (λ r u. most_fol
     by_goes None is further = refl
     by_goes (Some w) is further = (is, further (room - room_of f w) (gone w))
 
--- and so many as follow each other are computed
+-- and as many as follow each other are computed
 most_computed : (many : ℕ) (f : Format) (v x : SenderView) (room : ℕ) (xs : List Wish) → Follows f v room xs x → length xs ≤ many → length xs ≤ length (fill_at_most many f room v).wishes
 most_computed many f v x room [] is le = omega arith
 most_computed zero f v x room (w ∷ xs) is le = absurd (omega arith)

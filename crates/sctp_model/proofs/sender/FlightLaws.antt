@@ -76,12 +76,12 @@ alike_new : (v : SenderView) (q : Queued) (d : ℕ) (es : List Entry) → AllNam
 alike_new v q d [] named = record { sums = λ i. refl }
 alike_new v q d (e ∷ es) named = flies_alike v (with_message v.plan q d) e es (message_stays v.streams v.plan q d e named.0) (alike_new v q d es named.1)
 
--- an entry came
+-- an entry was added
 alike_more : (v : SenderView) (x : Entry) (es : List Entry) → IsAlike v (with_entry v.plan x) es
 alike_more v x [] = record { sums = λ i. refl }
 alike_more v x (e ∷ es) = flies_alike v (with_entry v.plan x) e es refl (alike_more v x es)
 
--- entries behind the plan never went out
+-- entries after the plan never went out
 flight_longer : (v : SenderView) (p : Plan) (more : List Entry) → IsBounded v → p.entries ≡ v.plan.entries ++ more → IsAlike v p v.plan.entries → in_flight (record v { plan = p }) ≡ in_flight v
 flight_longer v p more b longer h =
     let u : SenderView = record v { plan = p } in

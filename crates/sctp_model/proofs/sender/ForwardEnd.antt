@@ -76,7 +76,7 @@ end_behind f limit v p past upto =
     let from = end_from f limit v in
     sym (back f limit v p (omega (arith, past, from))) ∙ last.behind (p - v.cum) (omega (arith, past, from)) (omega (arith, upto))
 
--- What lies so, and behind which none fits, is the end.
+-- What lies so, and after which none fits, is the end.
 pub is_end : (f : Format) (limit : ℕ) (v : SenderView) (p : ℕ) → v.cum ≤ p → p ≤ point v → (v.cum < p → fits_forward f limit v p ≡ true) →
     ((q : ℕ) → p < q → q ≤ point v → fits_forward f limit v q ≡ false) → p ≡ forward_end f limit v
 is_end f limit v p from upto fits behind =

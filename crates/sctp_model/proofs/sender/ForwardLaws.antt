@@ -169,7 +169,7 @@ below_listed f es (suc s) =
     let same = b.2 in
     inl (omega arith))
 
--- the entry of a lane stands in the list
+-- the entry of a lane is in the list
 has_on : (f : Format) (es : List Entry) (l : Lane) (y : Skip) → Has (skip_of f es l) y → Has (skips_on f es l.stream) y
 has_on f es l y has = by_kind l.kind refl
   where
@@ -195,7 +195,7 @@ named_at n p (d ∷ es) (suc j) e h is = named_at n p es j e h.1 is
 of_lane : (l : Lane) (n : ℕ) (e : Entry) → entry_lane e ≡ l → entry_number e ≡ n → IsOf l n e
 of_lane l n e lane number = subst (λ (m : ℕ). IsOf l m e) number (subst (λ (k : Lane). IsOf k (entry_number e) e) lane (of_itself e))
 
--- an entry listed stands after c, up to p
+-- an entry listed is after c, up to p
 standing : (f : Format) (plan : Plan) (c p s : ℕ) (y : Skip) → Has (skips_below f (take (p - c) (drop c plan.entries)) s) y → StandsIn plan c p y.lane y.number
 standing f plan c p s y has =
     let found = below_has f (take (p - c) (drop c plan.entries)) s y has in
@@ -210,7 +210,7 @@ standing f plan c p s y has =
         let here : entry_at plan (suc (c + place.0)) ≡ Some e.0 = get-drop c plan.entries place.0 ∙ place.2 in
         (suc (c + place.0), e.0, omega arith, omega arith, here, of_lane y.lane y.number e.0 (e.2 ∙ sym lane) e.3)
 
--- of each numbered lane the largest number is listed, where all streams lie below s
+-- of each numbered lane the largest number is listed, if all streams lie below s
 highest : (f : Format) (plan : Plan) (c p s : ℕ) (l : Lane) (n : ℕ) → ((i : ℕ) (e : Entry) → entry_at plan i ≡ Some e → (entry_lane e).stream < s) → is_numbered f l.kind ≡ true →
     StandsIn plan c p l n → (y : Skip) × Has (skips_below f (take (p - c) (drop c plan.entries)) s) y × (y.lane ≡ l) × (n ≤ y.number)
 highest f plan c p s l n within numbered at =

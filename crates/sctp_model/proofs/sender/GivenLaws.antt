@@ -41,7 +41,7 @@ one_ticket : (m : Option Message) (t x : ℕ) → has_ticket t m ≡ true → ha
 one_ticket None t x on also = absurd (cc)
 one_ticket (Some m) t x on also = let one : m.ticket ≡ t = grind (arith, nat_tests) in let two : m.ticket ≡ x = grind (arith, nat_tests) in sym one ∙ two
 
--- other tickets' messages are abandoned where they were
+-- other tickets' messages are abandoned if they were before
 pub others_given : (f : Format) (v : SenderView) (t x : ℕ) (n m : Name) → IsReached f v → name_of v t ≡ Some n → name_of v x ≡ Some m → (t ≡ x → ⊥) → is_abandoned (with_abandoned v n) m ≡ is_abandoned v m
 others_given f v t x n m h is also ne = given_other v n m.lane m.number apart
   where

@@ -1,4 +1,4 @@
--- What an acknowledgement leaves of a sender, whatever the pace of its end: what was taken, or that with marks.
+-- What an acknowledgement leaves of a sender, whatever the pace of its endpoint: what was taken, or that with marks.
 use Rattle.std.proofs.Common.{◌≡◌, ℕ, ◌-◌, Bool, List, Option, None, Some, refl, sym, ◌∙◌}
 use Rattle.std.specs.Prelude.{option_map}
 use Rattle.sctp_model.specs.wire.Chunk.{ChunkMeaning}
@@ -26,7 +26,7 @@ heard_tickets o now v u = heard_cases (λ x. x.tickets ≡ u.tickets) o now v u 
 pub heard_reached : (f : Format) (o : Option Pace) (now : ℕ) (v u : SenderView) → IsReached f u → IsReached f (sender_heard o now v u)
 heard_reached f o now v u h = heard_cases (IsReached f) o now v u h (λ test. Repeats u test h)
 
--- an end without a pace does as it did: nothing is marked, and the timer is as it is set
+-- an endpoint without a pace does as it did: nothing is marked, and the timer is as it is set
 pub unpaced : (v : SenderView) (wait : ℕ) (t : Timer) (e : EndView) → e.pace ≡ None → paced v wait t e ≡ with_timer DataAlarm t e
 unpaced v wait t e none = (λ i. record (with_timer DataAlarm (timer_heard (none i) e.moment e.configuration.least_wait wait v e.sender t) e) {
   sender = sender_heard (none i) e.moment v e.sender;

@@ -1,4 +1,5 @@
--- Nothing lands in flight but by going out: where nothing is, nothing is once a ticket is abandoned, a moment passes or the data timer expires. What is in flight is unsettled.
+-- Nothing lands in flight but by going out: if nothing is, nothing is once a ticket is abandoned, a time is taken or the data timer expires. What is in
+-- flight is unsettled.
 use Rattle.std.proofs.Common.{◌≡◌, ℕ, suc, ◌+◌, List, [], ◌∷◌, ◌++◌, length, Bool, true, false, Option, Some, refl, sym, ap, subst, arith, ◌∙◌}
 use Rattle.std.specs.Prelude.{not, ◌&&◌, ◌||◌, ◌==◌, if◌then◌else◌, fold, slice_get}
 use Rattle.std.proofs.lemmas.Bool.{and_parts}
@@ -16,7 +17,7 @@ use Rattle.sctp_model.proofs.sender.FlightLaws.{sum_from-append}
 
 -- ---- sums over entries
 
--- each summand is that of an entry where it stands
+-- each summand is that of an entry at its place
 lands : (g : ℕ → Entry → ℕ) (i : ℕ) (es : List Entry) → ((k : ℕ) (e : Entry) → slice_get es k ≡ Some e → g (i + k) e ≡ 0) → sum_from g i es ≡ 0
 lands g i [] none = refl
 lands g i (e ∷ es) none =
@@ -25,7 +26,7 @@ lands g i (e ∷ es) none =
     let rest = lands g (suc i) es (λ k d is. let next : i + suc k ≡ suc i + k = omega arith in subst (λ (j : ℕ). g j d ≡ 0) next (none (suc k) d is)) in
     omega (arith, here, rest)
 
--- one sum is 0 where another is, if its summands are
+-- one sum is 0 if another is, if its summands are
 lands_as : (g h : ℕ → Entry → ℕ) (i : ℕ) (es : List Entry) → ((k : ℕ) (e : Entry) → slice_get es k ≡ Some e → g (i + k) e ≡ 0 → h (i + k) e ≡ 0)
     → sum_from g i es ≡ 0 → sum_from h i es ≡ 0
 lands_as g h i [] goes none = refl
@@ -166,7 +167,7 @@ given_lands v n none = after_end (λ (p : Plan). sum_from (flight_of (with_aband
         let last = end_lands (with_abandoned v n) (1 + length v.plan.entries) n in
         omega (arith, split, last, before)
 
--- nothing is in flight there where nothing was here
+-- nothing is in flight there if nothing was here
 abbrev pub LandsAs : (v u : SenderView) → Type 0
 LandsAs v u = in_flight v ≡ 0 → in_flight u ≡ 0
 

@@ -1,5 +1,5 @@
 -- What has to be looked at to expire: the messages that wait, the entries above CUM that are neither covered nor given up, and what streams go on with.
--- Just those messages may be abandoned; where none of them is past its time, nothing changes (RFC 3758, 3.5).
+-- Just those messages may be abandoned; if none of them is past its time, nothing changes (RFC 3758, 3.5).
 use Rattle.std.proofs.Common.{◌≡◌, ℕ, suc, ◌+◌, ◌<◌, List, [], ◌∷◌, drop, Bool, true, false, Option, Some, None, refl, sym, ap, ◌∙◌, subst, arith}
 use Rattle.std.specs.Prelude.{◌==◌, not, ◌&&◌, ◌||◌, if◌then◌else◌, fold, find, option_map}
 use Rattle.std.specs.Option.{option_map_or}
@@ -25,7 +25,7 @@ use Rattle.sctp_model.proofs.sender.PartLaws.{in_part_is}
 use Rattle.sctp_model.proofs.sender.PlanLaws.{continued_is}
 use Rattle.sctp_model.proofs.sender.TicketLaws.{is_ticketed}
 
--- ---- where nothing is late, nothing changes
+-- ---- if nothing is late, nothing changes
 
 -- a ticket whose message may not be abandoned, or isn't past its time
 pub expires_none : (v : SenderView) (now t : ℕ) → is_to_expire v now t ≡ false → expire_one now v t ≡ v
@@ -45,7 +45,7 @@ none_expires v now (t ∷ ts) off =
     let parts = or_parts (is_to_expire v now t) (list_any (is_to_expire v now) ts) off in
     ap (λ (u : SenderView). fold (expire_one now) u ts) (expires_none v now t parts.0) ∙ none_expires v now ts parts.1
 
--- A moment that makes no message late changes nothing.
+-- A time that makes no message late changes nothing.
 pub nothing_expires : (v : SenderView) (now : ℕ) → has_late v now ≡ false → expired v now ≡ v
 nothing_expires v now off = none_expires v now (count_up 1 v.tickets) off
 
@@ -74,14 +74,14 @@ uncovered_above f v t n h is =
 
 -- ---- what is shown late may be abandoned
 
--- where it waits
+-- if it waits
 pub late_waiting : (f : Format) (v : SenderView) (now t : ℕ) → IsReached f v → late_waits now t v.queue ≡ true → is_to_expire v now t ≡ true
 late_waiting f v now t h late =
     let here = waits_late now t v.queue late in
     let unnamed = ((is_ticketed f v h).waiting t here).2 in
     and_from (is_overdue v now t) (may_abandon v t) (due_waits f v now t h late) (ap (λ (o : Option Name). option_map_or (may_abandon_named v) o (waits t v.queue)) unnamed ∙ here)
 
--- where it has a number
+-- if it has a number
 late_named : (f : Format) (v : SenderView) (now t : ℕ) (n : Name) → IsReached f v → v.partial ≡ true → name_of v t ≡ Some n → some_passes (is_past now) (message_at v.plan n.lane n.number) ≡ true
     → is_abandoned v n ≡ false → is_covered v n ≡ false → is_to_expire v now t ≡ true
 late_named f v now t n h partial is past kept missing =
@@ -163,7 +163,7 @@ pub record IsPassedOver (v : SenderView) (now t : ℕ) : Type 0 where
   pub entries : v.partial ≡ true → shown_from v now t (suc v.cum) (drop v.cum v.plan.entries) ≡ false
   pub rests : v.partial ≡ true → (s : ℕ) (e : Entry) → s < v.streams → continued v.plan s ≡ Some e → is_late now t (entry_message v.plan e) ≡ false
 
--- where no entry is shown late, none is uncovered and of a message that is past its time, and was not given up
+-- if no entry is shown late, none is uncovered and of a message that is past its time, and was not given up
 none_uncovered : (v : SenderView) (now t i : ℕ) (n : Name) (es : List Entry) → AllOwn v.plan v.tickets v.plan.entries es → name_of v t ≡ Some n → some_passes (is_past now) (message_at v.plan n.lane n.number) ≡ true
     → is_abandoned v n ≡ false → shown_from v now t i es ≡ false → uncovered_from v t i es ≡ false
 none_uncovered v now t i n [] own is past kept off = refl

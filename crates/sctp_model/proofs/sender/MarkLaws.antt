@@ -1,4 +1,5 @@
--- Marks and end marks of a view that calls reach: what is marked for repeating went out and is of no abandoned message; an end mark is of an abandoned one.
+-- Marks and end marks of a view that calls reach: what is marked for retransmission went out and is of no abandoned message; an end mark is of an abandoned
+-- one.
 use Rattle.std.proofs.Common.{◌≡◌, ℕ, zero, suc, ◌<◌, ◌≤◌, inl, inr, List, [], ◌∷◌, ◌++◌, length, Bool, true, false, Option, Some, refl, sym, ap, ◌∙◌, subst, arith}
 use Rattle.std.specs.Prelude.{◌==◌, not, ◌&&◌, ◌||◌, slice_get, nat_lt, if◌then◌else◌}
 use Rattle.std.proofs.lemmas.Bool.{and_parts}
@@ -27,12 +28,12 @@ slice_kept [] ds i low = absurd (omega arith)
 slice_kept (e ∷ es) ds zero low = refl
 slice_kept (e ∷ es) ds (suc i) low = slice_kept es ds i (omega arith)
 
--- the entries that there were stand where they stood
+-- the entries that there were are where they were
 pub entry_kept : (es ds : List Entry) (i : ℕ) → i ≤ length es → item_at (es ++ ds) i ≡ item_at es i
 entry_kept es ds zero low = refl
 entry_kept es ds (suc i) low = slice_kept es ds i (omega arith)
 
--- an assignment puts fragments behind the plan
+-- an assignment puts fragments after the plan
 pub record IsPutBehind (v u : SenderView) : Type 0 where
   pub more : List Entry
   pub entries : u.plan.entries ≡ v.plan.entries ++ more

@@ -1,4 +1,4 @@
--- A message by its ticket: its entries are those whose message has the ticket, and it is in part where some stream goes on with it.
+-- A message by its ticket: its entries are those whose message has the ticket, and it is in part if some stream goes on with it.
 use Rattle.std.proofs.Common.{◌≡◌, ℕ, zero, suc, ◌<◌, List, [], ◌∷◌, Bool, true, false, Option, Some, None, refl, sym, ap, ◌∙◌, subst, arith}
 use Rattle.std.specs.Prelude.{◌==◌, not, ◌&&◌, ◌||◌}
 use Rattle.std.proofs.lemmas.Bool.{and_parts}
@@ -18,7 +18,7 @@ use Rattle.sctp_model.proofs.sender.TicketLaws.{is_ticketed}
 
 -- ---- one message
 
--- a message of the plan has the ticket exactly where it is the one of that name
+-- a message of the plan has the ticket exactly if it is the one of that name
 pub same_message : (p : Plan) (k t : ℕ) (all : List Entry) (n : Name) (l : Lane) (m : ℕ) → Owns p k all l m → name_among p t all ≡ Some n → has_ticket t (message_at p n.lane n.number) ≡ true
     → has_ticket t (message_at p l m) ≡ (same_lane n.lane l && (n.number == m))
 same_message p k t all n l m own is has = by_ticket (has_ticket t (message_at p l m)) refl (same_lane n.lane l && (n.number == m)) refl

@@ -26,7 +26,7 @@ name_among-append p t es ds = ap (option_map name_at) (find-append (bears p t) e
     of_two_maps None = refl
     of_two_maps (Some e) = refl
 
--- the same search where entries have the same messages
+-- the same search if entries have the same messages
 pub name_among-same : (p r : Plan) (t : ℕ) (es : List Entry) → ((e : Entry) → entry_message r e ≡ entry_message p e) → name_among r t es ≡ name_among p t es
 name_among-same p r t [] same = refl
 name_among-same p r t (e ∷ es) same =

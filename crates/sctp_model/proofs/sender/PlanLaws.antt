@@ -84,7 +84,7 @@ or_three : {A : Type 0} (a b c : Option A) → option_or (option_or a b) c ≡ o
 or_three None b c = refl
 or_three (Some x) b c = refl
 
--- of two lists one behind the other it is that of the second, or else that of the first
+-- of two lists one after the other it is that of the second, or else that of the first
 pub latest-append : (s : ℕ) (es ds : List Entry) → latest s (es ++ ds) ≡ option_or (latest s ds) (latest s es)
 latest-append s [] ds = or_absent (latest s ds)
 latest-append s (e ∷ es) ds = ap (λ (o : Option Entry). option_or o (when ((entry_lane e).stream == s) e)) (latest-append s es ds) ∙ or_three (latest s ds) (latest s es) (when ((entry_lane e).stream == s) e)

@@ -1,4 +1,4 @@
--- A pace gives fragments no more room than a packet has; where nothing is in flight, it gives all of it.
+-- A pace gives fragments no more space than a packet has; if nothing is in flight, it gives all of it.
 use Rattle.std.proofs.Common.{◌≡◌, ℕ, zero, suc, ◌+◌, ◌-◌, ◌≤◌, Bool, true, false, nat_le, List, [], ◌∷◌, length, Option, None, Some, refl, arith, if◌then◌else◌}
 use Rattle.std.specs.Prelude.{◌&&◌}
 use Rattle.std.proofs.lemmas.Bool.{and_parts}
@@ -50,7 +50,7 @@ abbrev pub repeats_of_list : List Wish → List Wish
 repeats_of_list [] = []
 repeats_of_list (w ∷ ws) = if w.view.sent w.index then w ∷ repeats_of_list ws else []
 
--- nothing fits no room
+-- into no space nothing fits
 nothing_fits : (f : Format) (v : SenderView) → goes f 0 v ≡ None
 nothing_fits f v = go (next_wish f v) refl
   where

@@ -39,7 +39,7 @@ assigned_cases Interleaved v u is =
 
 -- ---- the next wish
 
--- the three ways to be the next wish, each where those before it have none
+-- the three ways to be the next wish, each if those before it have none
 pub data IsWished (f : Format) (v : SenderView) : Wish → Type 0 where
   Repeated : (i : ℕ) → IsLowest v.marked (length v.plan.entries) i → IsWished f v (standing v i)
   Unsent : (i : ℕ) → lowest v.marked (length v.plan.entries) ≡ None → IsLowest (passes_at v.plan (is_unsent v)) (length v.plan.entries) i → IsWished f v (standing v i)
@@ -76,7 +76,7 @@ wish_cases f v w is = by_way w (wished_ways f v w is)
     by_way _ (Unsent i marks h) = inl (record { view = refl; low = h.some; high = h.within })
     by_way _ (New u marks unsent new) = inr (record { assigned = new; index = refl })
 
--- What is so of a view is so of the one that a wish leaves, where it is so of what is assigned and of what is sent.
+-- What is so of a view is so of the one that a wish leaves, if it is so of what is assigned and of what is sent.
 pub after_wish : (P : SenderView → Type 0) (f : Format) (v : SenderView) (w : Wish) → P v → ((u : SenderView) → IsAssigned v f u → P u) → ((u : SenderView) (i : ℕ) → P u → P (gone (standing u i)))
     → next_wish f v ≡ Some w → P (gone w)
 after_wish P f v w same assigned sent next = by_way w (wished_ways f v w next)

@@ -47,7 +47,7 @@ found_is test (y ∷ xs) x is = by_test (test y) refl is (λ later. found_is tes
     by_test true on here further = let same : y ≡ x = cc in (inl same, subst (λ (z : _). test z ≡ true) same on)
     by_test false off here further = let r = further here in (inr r.0, r.1)
 
--- ---- elements of two lists, one behind the other
+-- ---- elements of two lists, one after the other
 
 pub has_left : {A : Type 0} (xs ys : List A) (x : A) → Has xs x → Has (xs ++ ys) x
 has_left [] ys x has = absurd has
@@ -117,7 +117,7 @@ lowest_is test (suc n) i is =
           subst (λ (x : ℕ). IsLowest test (suc n) x) on.1 (record { some = omega arith; within = omega arith; passes = on.0; first = λ j lo hi. none_lowest test n last.0 j lo (omega arith) })
     ]
 
--- where none passes, none is found
+-- if none passes, none is found
 pub lowest_none : (test : ℕ → Bool) (n : ℕ) → ((j : ℕ) → 0 < j → j ≤ n → test j ≡ false) → lowest test n ≡ None
 lowest_none test zero off = refl
 lowest_none test (suc n) off = rw (lowest_none test n (λ j lo hi. off j lo (omega arith)), off (suc n) (omega arith) (omega arith)) refl

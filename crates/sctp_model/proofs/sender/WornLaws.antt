@@ -38,11 +38,11 @@ worn_reached f test v h = wears_each (IsReached f) (λ u t k. Abandons u t k) te
 
 -- ---- nothing goes out too often
 
--- the limit of the message at an index, where it has one
+-- the limit of the message at an index, if it has one
 abbrev pub limit_of : Plan → Option Entry → Option ℕ
 limit_of p o = option_and_then (λ e. option_and_then (λ m. m.limit) (entry_message p e)) o
 
--- Where messages may be abandoned, no fragment goes out again more often than its message's limit.
+-- If messages may be abandoned, no fragment goes out again more often than its message's limit.
 pub record IsLimited (v : SenderView) : Type 0 where
   pub fresh : (i : ℕ) → v.sent i ≡ false → v.repeats i ≡ 0
   pub most : v.partial ≡ true → (i k : ℕ) → limit_of v.plan (entry_at v.plan i) ≡ Some k → v.repeats i ≤ k
@@ -60,7 +60,7 @@ named_item : (n : ℕ) (p : Plan) (q : Queued) (d : ℕ) (es : List Entry) (i : 
 named_item n p q d es zero named = refl
 named_item n p q d es (suc i) named = named_at n p q d es i named
 
--- The plan grows, and tells of what there was what it told before.
+-- The plan grows, and says of what there was what it said before.
 limited_longer : (v : SenderView) (p : Plan) (qs : List Queued) (turn : ℕ) → IsBounded v → IsLimited v
     → ((i : ℕ) → i ≤ length v.plan.entries → limit_of p (entry_at p i) ≡ limit_of v.plan (entry_at v.plan i)) → IsLimited (record v { plan = p; queue = qs; turn = turn })
 limited_longer v p qs turn b h low = record {

@@ -3,13 +3,15 @@ use Rattle.std.specs.Prelude.{◌≡◌, ℕ, ◌+◌, ◌<◌, ◌⊎◌, nat_l
 use Rattle.sctp_model.specs.numbers.Numbers.{u16_bytes}
 use Rattle.sctp_model.specs.wire.Typed.{Typed, typed_in}
 use Rattle.sctp_model.specs.wire.Unknown.{chunk_rule}
-use Rattle.sctp_model.specs.wire.Chunk.{PieceMeaning, SackMeaning, ForwardMeaning, ChunkMeaning, Data, IData, Init, InitAck, Sack, Heartbeat, HeartbeatAck, Abort, Shutdown, ShutdownAck, Error, CookieEcho, CookieAck, ShutdownComplete, ForwardTsn, IForwardTsn, Unknown}
+use Rattle.sctp_model.specs.wire.Chunk.{PieceMeaning, SackMeaning, ForwardMeaning, ChunkMeaning, Data, IData, Init, InitAck, Sack, Heartbeat, HeartbeatAck}
+use Rattle.sctp_model.specs.wire.Chunk.{Abort, Shutdown, ShutdownAck, Error, CookieEcho, CookieAck, ShutdownComplete, ForwardTsn, IForwardTsn, Unknown}
 use Rattle.sctp_model.specs.messages.Format.{Format, Plain, Interleaved}
 use Rattle.sctp_model.specs.receiver.ReceiverView.{ReceiverView, IsCumulative}
 use Rattle.sctp_model.specs.sender.SackTaken.{Stale, Beyond, BadBlock, sack_fault, sack_taken, shutdown_fault, shutdown_taken}
 use Rattle.sctp_model.specs.receiver.PieceTaken.{PieceAnswer, Duplicate, Ahead, NoSuchStream, Passed, NoRoom, Kept, PieceTaken}
 use Rattle.sctp_model.specs.receiver.ForwardTaken.{OutOfDate, Bad, Moved, ForwardTaken}
-use Rattle.sctp_model.specs.end.EndView.{format_of, Tags, Completed, Aborted, StaleCookie, Stage, ShutdownSent, ShutdownReceived, ShutdownAckSent, Phase, Calling, Echoing, Open, DataAlarm, Timer, EndView}
+use Rattle.sctp_model.specs.end.EndView.{format_of, Tags, Completed, Aborted, StaleCookie, Stage, ShutdownSent, ShutdownReceived, ShutdownAckSent, Phase}
+use Rattle.sctp_model.specs.end.EndView.{Calling, Echoing, Open, DataAlarm, Timer, EndView}
 use Rattle.sctp_model.specs.end.Clock.{turned, closed, settled, renewed, paced}
 use Rattle.sctp_model.specs.end.Closing.{with_due, answers_shutdown, takes_data, takes_acknowledgements, awaits_ack, awaits_complete, hears}
 use Rattle.sctp_model.specs.end.Reports.{item, causes_with, with_causes, fits_alone, INVALID_STREAM, STALE_COOKIE, UNRECOGNIZED_CHUNK}
@@ -26,7 +28,7 @@ same_format Plain Interleaved = false
 same_format Interleaved Plain = false
 same_format Interleaved Interleaved = true
 
--- a piece that wasn't kept, or says so itself, is to be acknowledged at once (6.2)
+-- a data chunk that wasn't kept, or whose I bit is set (3.3.1), is to be acknowledged at once (6.2)
 abbrev pub asks_at_once : PieceMeaning → PieceAnswer → Bool
 asks_at_once p Kept = p.immediate
 asks_at_once p a = true
@@ -71,8 +73,8 @@ pub data ForwardActs (f : Format) (e : EndView) (m : ForwardMeaning) : After →
 
 -- ---- SACK (6.2.1 and 6.3.2)
 
--- The endpoint after a SACK that was taken: what it acknowledges is acknowledged; a FORWARD is due if the point is past CUM; the data timer's count of expiries is 0 again; and an
--- endpoint with a pace acts on the round trip and the misses that it reports.
+-- The endpoint after a SACK that was taken: what it acknowledges is acknowledged; a FORWARD is due if the point is past CUM; the data timer's count of
+-- expiries is 0 again; and an endpoint with a pace acts on the round trip and the misses that it reports.
 abbrev pub sack_heard : EndView → SackMeaning → EndView
 sack_heard e s =
     let x = settled (record e { sender = sack_taken e.sender s; due = record e.due { forward = true } }) in
@@ -102,19 +104,20 @@ abbrev pub has_cause : ℕ → List Typed → Bool
 has_cause k [] = false
 has_cause k (x ∷ xs) = (x.kind == k) || has_cause k xs
 
--- the cookie that was echoed came too late (5.2.6)
+-- the cookie that was echoed arrived too late (5.2.6)
 abbrev pub is_stale_cookie : Phase → List ℕ → Bool
 is_stale_cookie (Echoing t xs) causes = has_cause STALE_COOKIE (typed_in causes)
 is_stale_cookie h causes = false
 
--- What an ERROR does (3.3.10): a cookie that is too old ends the caller (5.2.6).
+-- What an ERROR does (3.3.10): if the cookie was too old, the caller closes (5.2.6).
 pub data ErrorActs (e : EndView) (causes : List ℕ) : After → Type 0 where
   Closes : is_stale_cookie e.phase causes ≡ true → ErrorActs e causes (Ends (closed StaleCookie e))
   SaysNothing : is_stale_cookie e.phase causes ≡ false → ErrorActs e causes (GoesOn Unnoted e)
 
 -- ---- the three chunks that close an association (9.2)
 
--- The data timer after a SHUTDOWN whose cumulative TSN was taken: it stays as it is; with standard closing one that moved CUM is to it what a SACK is (6.3.2, 9.2).
+-- The data timer after a SHUTDOWN whose cumulative TSN was taken: it stays as it is; with standard closing one that moved CUM is to it what a SACK is
+-- (6.3.2, 9.2).
 abbrev pub shut_timer : (standard moved : Bool) → (now : ℕ) → Timer → Timer
 shut_timer standard moved now t = if standard && moved then renewed now true t else t
 
@@ -168,7 +171,7 @@ abbrev pub unknown_causes : EndView → ℕ → ℕ → List ℕ → List Typed
 unknown_causes e kind flags value =
     if (chunk_rule kind).report && may_report e.phase then causes_with e (unknown_item kind flags value) else e.due.causes
 
--- what stands behind it is left, or goes on
+-- the chunks after it are left unread, or act
 abbrev pub unknown_leaves : Bool → EndView → After
 unknown_leaves true e = Ends e
 unknown_leaves false e = GoesOn Unnoted e
@@ -178,7 +181,8 @@ abbrev pub unknown_acts : EndView → ℕ → ℕ → List ℕ → After
 unknown_acts e kind flags value =
     unknown_leaves (chunk_rule kind).stop (with_causes (unknown_causes e kind flags value) e)
 
--- What a chunk of any other type does: a RE-CONFIG, at an endpoint that has agreed on it, acts by its parameters (RFC 6525, 5.2); every other one is of an unknown type.
+-- What a chunk of any other type does: a RE-CONFIG, at an endpoint that has agreed on it, acts by its parameters (RFC 6525, 5.2); every other one is of an
+-- unknown type.
 pub data OtherActs (e : EndView) (kind flags : ℕ) (value : List ℕ) : After → Type 0 where
   ReconfigComes : (c : ℕ) → takes_reconfig e kind ≡ true → IsCumulative e.receiver c →
       OtherActs e kind flags value (GoesOn Unnoted (parameters_heard c e (typed_in value)))
@@ -186,7 +190,7 @@ pub data OtherActs (e : EndView) (kind flags : ℕ) (value : List ℕ) : After �
 
 -- ---- one clause for each type; the tag is that of the packet
 
--- What one chunk does to an end, by its type (3.2, table 1).
+-- What one chunk does to an endpoint, by its type (3.2, table 1).
 abbrev pub Acts : EndView → ℕ → ChunkMeaning → After → Type 0
 Acts e tag (Data p) a = PieceActs Plain e p a
 Acts e tag (IData p) a = PieceActs Interleaved e p a

@@ -65,7 +65,7 @@ abbrev pub TellsGap : Bool → ReceiverView → Type 0
 TellsGap true r = HasGap r
 TellsGap false r = HasGap r → ⊥
 
--- It is asked of an end that delays its SACKs, after all chunks of the packet: to another one it makes no difference.
+-- It is asked of an endpoint that delays its SACKs, after all chunks of the packet: to another one it makes no difference.
 abbrev pub LeavesGap : EndView → (gap : Bool) → Type 0
 LeavesGap e gap = e.configuration.delay ≡ true → TellsGap gap e.receiver
 
@@ -73,9 +73,9 @@ LeavesGap e gap = e.configuration.delay ≡ true → TellsGap gap e.receiver
 abbrev pub urged : (gap : Bool) → Notes → Notes
 urged gap n = record n { at_once = n.at_once || gap }
 
--- ---- its end
+-- ---- the end of a packet
 
--- there is a moment
+-- there is a time
 abbrev pub is_set : Option ℕ → Bool
 is_set None = false
 is_set (Some m) = true
@@ -84,7 +84,7 @@ is_set (Some m) = true
 abbrev pub owes_sack : EndView → Bool
 owes_sack e = e.due.sack || is_set e.delayed
 
--- A SACK may not wait: the end doesn't delay, something in the packet asks for it, it is the second such packet, or a SHUTDOWN was sent (6.2 and 9.2).
+-- A SACK may not wait: the endpoint doesn't delay, something in the packet asks for it, it is the second such packet, or a SHUTDOWN was sent (6.2 and 9.2).
 abbrev pub is_at_once : Notes → Stage → EndView → Bool
 is_at_once n g e = not e.configuration.delay || (n.at_once || (owes_sack e || is_shutdown_sent g))
 
@@ -92,7 +92,7 @@ is_at_once n g e = not e.configuration.delay || (n.at_once || (owes_sack e || is
 abbrev pub acknowledges : Stage → EndView → EndView
 acknowledges g e = with_due (record e.due { sack = true; shutdown = e.due.shutdown || is_shutdown_sent g }) e
 
--- a SACK waits, for another packet or for its moment (6.2)
+-- a SACK is delayed, until another packet arrives or until its time (6.2)
 abbrev pub delays : EndView → EndView
 delays e = record e { delayed = Some (after_wait e.moment SACK_DELAY) }
 
@@ -101,7 +101,7 @@ abbrev pub kept_going : Bool → EndView → EndView
 kept_going false e = e
 kept_going true e = with_timer ShutdownAlarm (renewed e.moment true (e.timers ShutdownAlarm)) e
 
--- What a packet leaves at an open end, if something in it is to be acknowledged.
+-- What a packet leaves at an open endpoint, if something in it is to be acknowledged.
 abbrev pub answered_in : Notes → Stage → EndView → EndView
 answered_in n g e =
     kept_going (e.configuration.standard_closing && (n.brings_data && is_shutdown_sent g)) (if is_at_once n g e then acknowledges g e else delays e)
@@ -116,13 +116,14 @@ acknowledges_in n true h e = e
 abbrev pub packet_ended : Notes → EndView → EndView
 packet_ended n e = acknowledges_in n n.acknowledges e.phase e
 
--- What a packet that acted leaves at its end: messages that missed too much are given up, and what is due after it; `e` is the end before it.
+-- What a packet that acted leaves, after its last chunk: messages that may not be retransmitted again are given up (`wearing`), and it is noted how its
+-- data is to be acknowledged; `e` is the endpoint before the packet.
 abbrev pub at_its_end : (e : EndView) → Notes → (gap : Bool) → EndView → EndView
 at_its_end e n gap t = packet_ended (urged gap n) (wearing (missed_below e.pace) t)
 
 -- ---- a packet
 
--- ACT: a packet that reads, at the end's moment, with this draw: the end after it, and what is told (8.4 and 8.5).
+-- ACT: a packet that reads, at the endpoint's time, with these random values: the endpoint after it, and the verdict (8.4 and 8.5).
 pub data Arrives (e : EndView) (d : Draw) (p : Packet) : EndView → Verdict → Type 0 where
   Elsewhere : has_ports e.configuration p ≡ false → Arrives e d p e (Dropped PORTS)
   NotOurs : has_ports e.configuration p ≡ true → passes e.phase p ≡ false → Arrives e d p e (Dropped TAG)
@@ -134,9 +135,9 @@ pub data Arrives (e : EndView) (d : Draw) (p : Packet) : EndView → Verdict →
   Heard : (t : EndView) (n : Notes) (v : Verdict) → has_ports e.configuration p ≡ true → passes e.phase p ≡ true → has_association e.phase ≡ true →
       AllAct p.tag e no_notes p.chunks t n v → (gap : Bool) → LeavesGap t gap → Arrives e d p (at_its_end e n gap t) v
 
--- ---- what comes to an end at a moment, as it reads: None if the bytes don't
+-- ---- what arrives at an endpoint at a time, as it reads: None if the bytes don't
 
--- The end takes the moment. Bytes that don't read are dropped for it; a packet arrives.
+-- The endpoint takes the time. Bytes that don't read are dropped for that; a packet arrives.
 pub data Receives (e : EndView) (now : ℕ) (d : Draw) : Option Packet → EndView → Verdict → Type 0 where
   DroppedUnread : Receives e now d None (at_moment e now) (Dropped FAULT)
   ReadAs : (p : Packet) (t : EndView) (v : Verdict) → Arrives (at_moment e now) d p t v → Receives e now d (Some p) t v
@@ -145,13 +146,13 @@ pub data Receives (e : EndView) (now : ℕ) (d : Draw) : Option Packet → EndVi
 abbrev pub cut_to : Packet → List ChunkMeaning → Packet
 cut_to p front = record p { chunks = front }
 
--- A packet that is answered ends with its answer, so no chunk behind it can want memory.
+-- A packet that is answered ends with its answer, so for no chunk after it can an allocation fail.
 abbrev pub is_answer : Verdict → Bool
 is_answer (Answer p) = true
 is_answer (Dropped reason) = false
 is_answer Taken = false
 
--- Memory was wanted, at the first chunk or at a later one: all chunks before that one have acted, and without any the moment alone was taken.
+-- An allocation failed, at the first chunk or at a later one: all chunks before that one have acted; if there are none, the time alone was taken.
 pub data IsCutShort (e : EndView) (now : ℕ) (d : Draw) : Option Packet → EndView → Type 0 where
   CutFirst : (p : Option Packet) → IsCutShort e now d p (at_moment e now)
   CutLater : (p : Packet) (y : ChunkMeaning) (front back : List ChunkMeaning) (x : ChunkMeaning) (t : EndView) (v : Verdict) →

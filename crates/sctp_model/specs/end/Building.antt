@@ -12,7 +12,8 @@ use Rattle.sctp_model.specs.sender.Filling.{Wish, Fill, fill}
 use Rattle.sctp_model.specs.sender.SentChunks.{chunk_of, forward_chunk_of}
 use Rattle.sctp_model.specs.receiver.SackMade.{IsSack, sack_sent}
 use Rattle.sctp_model.specs.receiver.ResetTaken.{last_finished, with_answers}
-use Rattle.sctp_model.specs.end.EndView.{format_of, Draw, Tags, Stage, Phase, Calling, Echoing, Open, InitAlarm, CookieAlarm, DataAlarm, ShutdownAlarm, AckAlarm, ResetAlarm, Timer, EndView, has_association}
+use Rattle.sctp_model.specs.end.EndView.{format_of, Draw, Tags, Stage, Phase, Calling, Echoing, Open, InitAlarm, CookieAlarm, DataAlarm, ShutdownAlarm}
+use Rattle.sctp_model.specs.end.EndView.{AckAlarm, ResetAlarm, Timer, EndView, has_association}
 use Rattle.sctp_model.specs.end.Clock.{running, with_timer, started, is_point_past}
 use Rattle.sctp_model.specs.end.Closing.{with_due}
 use Rattle.sctp_model.specs.end.Pacing.{room_by, sent_pace}
@@ -71,8 +72,8 @@ pub data Wants (e : EndView) : Slot → ChunkMeaning → Type 0 where
   SayShutdown : (c : ℕ) → IsCumulative e.receiver c → Wants e ShutdownSlot (Shutdown (tsn e.receiver.initial c))
   AnswerShutdown : Wants e ShutdownAckSlot ShutdownAck
 
--- The end once that chunk is built, whatever it says: at this place nothing is due any more; what is repeated starts its timer (RFC 9260, 6.3.2); behind a
--- SACK none waits.
+-- The endpoint once that chunk is built, whatever it says: at this place nothing is due any more; what is retransmitted starts its timer (RFC 9260, 6.3.2);
+-- after a SACK none is delayed.
 abbrev pub once_built : Slot → EndView → EndView
 once_built EchoSlot e = started CookieAlarm (with_due (record e.due { cookie_echo = false }) e)
 once_built CookieAckSlot e = with_due (record e.due { cookie_ack = false }) e
@@ -87,11 +88,11 @@ once_built ShutdownAckSlot e = started AckAlarm (with_due (record e.due { shutdo
 
 -- ---- filling
 
--- behind these chunks there is room for one more, up to the packet limit (RFC 9260, 6.10)
+-- after these chunks there is space for one more, up to the packet limit (RFC 9260, 6.10)
 abbrev pub has_room : EndView → List ChunkMeaning → ChunkMeaning → Bool
 has_room e xs x = nat_le (size_of_packet (xs ++ x ∷ [])) e.configuration.limit
 
--- What is due at these places goes in behind `xs`, one after the other; the first that doesn't fit ends the packet (`full`) and stays due.
+-- What is due at these places goes in after `xs`, one after the other; the first that doesn't fit ends the packet (`full`) and stays due.
 pub data Puts : List Slot → EndView → List ChunkMeaning → List ChunkMeaning → (full : Bool) → EndView → Type 0 where
   NoMore : (e : EndView) (xs : List ChunkMeaning) → Puts [] e xs xs false e
   NotDue : (s : Slot) (ss : List Slot) (e : EndView) (xs zs : List ChunkMeaning) (full : Bool) (t : EndView) → is_due s e ≡ false →
@@ -114,7 +115,7 @@ room_behind e xs = room_by e.pace (format_of e) (e.configuration.limit - size_of
 abbrev pub filled_behind : EndView → List ChunkMeaning → Fill
 filled_behind e xs = fill (format_of e) (room_behind e xs) e.sender
 
--- the end once fragments went out behind these chunks
+-- the endpoint once fragments went out after these chunks
 abbrev pub sent : EndView → List ChunkMeaning → EndView
 sent e xs = with_timer DataAlarm (timer_after e (filled_behind e xs).wishes) (record e {
   sender = (filled_behind e xs).view;
@@ -127,11 +128,11 @@ fragments e xs = map (chunk_of (format_of e)) (filled_behind e xs).wishes
 
 -- ---- the next packet
 
--- BUILD: what the next packet of an end holds (RFC 9260, 6.10), and what building it leaves. If it holds nothing there is no packet.
+-- BUILD: what the next packet of an endpoint holds (RFC 9260, 6.10), and what building it leaves. If it holds nothing there is no packet.
 pub data Builds (e : EndView) : List ChunkMeaning → EndView → Type 0 where
   Sleeps : has_association e.phase ≡ false → Builds e [] e
   Waits : (d : Draw) → e.phase ≡ Calling d → e.due.init ≡ false → Builds e [] e
-  -- an INIT stands alone
+  -- an INIT is alone in its packet
   Calls : (d : Draw) → e.phase ≡ Calling d → e.due.init ≡ true →
       Builds e (own_init e.configuration d ∷ []) (started InitAlarm (with_due (record e.due { init = false }) e))
   Echoes : (t : Tags) (cookie : List ℕ) (zs : List ChunkMeaning) (full : Bool) (x : EndView) → e.phase ≡ Echoing t cookie →
@@ -140,7 +141,7 @@ pub data Builds (e : EndView) : List ChunkMeaning → EndView → Type 0 where
   Fills : (t : Tags) (g : Stage) (zs : List ChunkMeaning) (x : EndView) → e.phase ≡ Open t g → Puts open_slots (asking e) [] zs false x →
       Builds e (zs ++ fragments x zs) (sent x zs)
 
--- the tag on an end's packets: the one that its peer asked for, once it knows it; an INIT has 0 (8.5.1)
+-- the tag on an endpoint's packets: the one that its peer asked for, once it knows it; an INIT has 0 (8.5.1)
 abbrev pub tag_to : Phase → ℕ
 tag_to (Echoing tags cookie) = tags.peer
 tag_to (Open tags stage) = tags.peer

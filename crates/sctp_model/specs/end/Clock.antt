@@ -6,15 +6,16 @@ use Rattle.sctp_model.specs.sender.Words.{when}
 use Rattle.sctp_model.specs.sender.Entries.{in_flight}
 use Rattle.sctp_model.specs.sender.Readers.{point, unsettled}
 use Rattle.sctp_model.specs.end.Pacing.{Pace, pace_begun, wait_begun, heard, wait_heard}
-use Rattle.sctp_model.specs.end.EndView.{Established, ShutdownSent, ShutdownAckSent, Phase, Calling, Echoing, Open, Over, Ended, Due, nothing_due, Alarm, InitAlarm, CookieAlarm, DataAlarm, ShutdownAlarm, AckAlarm, ResetAlarm, Timer, EndView}
+use Rattle.sctp_model.specs.end.EndView.{Established, ShutdownSent, ShutdownAckSent, Phase, Calling, Echoing, Open, Over, Ended, Due, nothing_due, Alarm}
+use Rattle.sctp_model.specs.end.EndView.{InitAlarm, CookieAlarm, DataAlarm, ShutdownAlarm, AckAlarm, ResetAlarm, Timer, EndView}
 
 -- ---- one timer
 
--- the moment so long after now, or the last one
+-- the time this long after now, or the last one that there is
 abbrev pub after_wait : ℕ → ℕ → ℕ
 after_wait now wait = min (now + wait) LAST_MOMENT
 
--- the timer, once its packet is built at this moment (RFC 9260, 6.3.2); while it runs another packet doesn't move its expiry
+-- the timer, once its packet is built at this time (RFC 9260, 6.3.2); while it runs another packet doesn't move its expiry
 abbrev pub running : ℕ → Timer → Option ℕ → Timer
 running now t (Some m) = t
 running now t None = record t { expiry = Some (after_wait now t.wait) }
@@ -27,12 +28,12 @@ stopped t = record t { expiry = None }
 abbrev pub expired_timer : Timer → Timer
 expired_timer t = record { wait = min (2 * t.wait) LONGEST_WAIT; repeats = suc t.repeats; expiry = None }
 
--- an expiry that is set has come by now
+-- an expiry that is set is reached by now
 abbrev pub is_over_at : ℕ → Option ℕ → Bool
 is_over_at now (Some m) = nat_le m now
 is_over_at now None = false
 
--- how often its packet is repeated before the end gives up (RFC 9260, 6.3.3, 5.1 and 9.2)
+-- how often its packet is repeated before the endpoint gives up (RFC 9260, 6.3.3, 5.1 and 9.2)
 abbrev pub repeats_of : Alarm → ℕ
 repeats_of InitAlarm = OPENING_REPEATS
 repeats_of CookieAlarm = OPENING_REPEATS
@@ -41,9 +42,9 @@ repeats_of ShutdownAlarm = REPEATS
 repeats_of AckAlarm = REPEATS
 repeats_of ResetAlarm = REPEATS
 
--- ---- the timers of an end
+-- ---- the timers of an endpoint
 
--- each timer by a number of its own, in the order in which they expire at one moment
+-- each timer by a number of its own, in the order in which they expire at one time
 abbrev pub alarm_number : Alarm → ℕ
 alarm_number InitAlarm = 0
 alarm_number CookieAlarm = 1
@@ -56,19 +57,19 @@ alarm_number ResetAlarm = 5
 abbrev pub replaced : Alarm → Timer → (Alarm → Timer) → Alarm → Timer
 replaced a t f = λ b. if alarm_number b == alarm_number a then t else f b
 
--- the end, with another timer in this one's place
+-- the endpoint, with another timer in this one's place
 abbrev pub with_timer : Alarm → Timer → EndView → EndView
 with_timer a t e = record e { timers = replaced a t e.timers }
 
--- the end, with this timer running from its moment on
+-- the endpoint, with this timer running from its time on
 abbrev pub started : Alarm → EndView → EndView
 started a e = with_timer a (running e.moment (e.timers a) (e.timers a).expiry) e
 
--- the end, told a moment: time doesn't run backwards, so one before its own counts as its own
+-- the endpoint, given a time: time doesn't run backwards, so one before its own counts as its own
 abbrev pub at_moment : EndView → ℕ → EndView
 at_moment e now = record e { moment = max e.moment now }
 
--- ---- where a timer runs
+-- ---- in which states a timer runs
 
 -- the state whose packet this timer repeats: nowhere else does it run
 abbrev pub is_home : Alarm → Phase → Bool
@@ -80,7 +81,7 @@ is_home AckAlarm (Open t ShutdownAckSent) = true
 is_home ResetAlarm (Open t Established) = true
 is_home a h = false
 
--- What was due once the end has gone to this state: the packets that belong to one state alone are forgotten elsewhere, all others stay.
+-- What was due once the endpoint has gone to this state: the packets that belong to one state alone are forgotten elsewhere, all others stay.
 abbrev pub due_in : Phase → Due → Due
 due_in h d = record d {
   init = d.init && is_home InitAlarm h;
@@ -90,15 +91,15 @@ due_in h d = record d {
   shutdown_ack = d.shutdown_ack && is_home AckAlarm h;
 }
 
--- The timers once the end has gone to this state: each that isn't at home there rests.
+-- The timers once the endpoint has gone to this state: each that isn't at home there rests.
 abbrev pub timers_in : Phase → (Alarm → Timer) → Alarm → Timer
 timers_in h f = λ a. if is_home a h then f a else stopped (f a)
 
--- The end goes to this state (RFC 9260, 4).
+-- The endpoint goes to this state (RFC 9260, 4).
 abbrev pub turned : Phase → EndView → EndView
 turned h e = record e { phase = h; due = due_in h e.due; timers = timers_in h e.timers }
 
--- The end is closed for good, for this reason (RFC 9260, 9). It sends nothing and waits for nothing; what its user may still take or ask about stays.
+-- The endpoint is closed for good, for this reason (RFC 9260, 9). It sends nothing and waits for nothing; what its user may still take or ask about stays.
 abbrev pub closed : Ended → EndView → EndView
 closed why e = record (turned (Over why) e) { due = nothing_due; delayed = None }
 
@@ -114,7 +115,7 @@ settled e = record (with_timer DataAlarm (if unsettled e.sender then e.timers Da
   due = record e.due { forward = e.due.forward && is_point_past e.sender };
 }
 
--- a timer that runs expires a first wait after this moment; one that doesn't still rests
+-- a timer that runs expires a first wait after this time; one that doesn't still rests
 abbrev pub renewed_expiry : ℕ → Option ℕ → Option ℕ
 renewed_expiry now None = None
 renewed_expiry now (Some m) = Some (after_wait now FIRST_WAIT)
@@ -127,7 +128,7 @@ renewed now true t = record { wait = FIRST_WAIT; repeats = 0; expiry = renewed_e
 
 -- ---- the timer of a request that is in progress
 
--- a timer that runs expires one wait after this moment; one that rests still rests
+-- a timer that runs expires one wait after this time; one that rests still rests
 abbrev pub restarted_expiry : (now wait : ℕ) → Option ℕ → Option ℕ
 restarted_expiry now wait None = None
 restarted_expiry now wait (Some m) = Some (after_wait now wait)
@@ -138,8 +139,8 @@ restarted now t = record t { expiry = restarted_expiry now t.wait t.expiry }
 
 -- ---- the data timer of an endpoint with a pace
 
--- The data timer's expiry after an acknowledgement, with this RTO: a running timer is restarted if that is asked for (`anew`), one that doesn't run is started if data is in flight
--- (RFC 9260, 6.3.2, R3 and R4, and 7.2.4, step 4).
+-- The data timer's expiry after an acknowledgement, with this RTO: a running timer is restarted if that is asked for (`anew`), one that doesn't run is
+-- started if data is in flight (RFC 9260, 6.3.2, R3 and R4, and 7.2.4, step 4).
 abbrev pub paced_expiry : (now wait : ℕ) → (anew flies : Bool) → Option ℕ → Option ℕ
 paced_expiry now wait anew flies None = when flies (after_wait now wait)
 paced_expiry now wait anew flies (Some m) = Some (if anew then after_wait now wait else m)
@@ -175,7 +176,8 @@ abbrev pub timer_begun : Option Pace → (least wait : ℕ) → Timer → Timer
 timer_begun None least wait t = t
 timer_begun (Some p) least wait t = record t { wait = wait_begun least wait p }
 
--- An endpoint whose association begins: the round trip of the handshake is its first measurement; without one the data timer has the handshake's RTO. One without a pace stays as it is.
+-- An endpoint whose association begins: the round trip of the handshake is its first measurement; without one the data timer has the handshake's RTO. One
+-- without a pace stays as it is.
 abbrev pub measured : (trip : Option ℕ) → (wait : ℕ) → EndView → EndView
 measured trip wait e =
     let p = option_map (pace_begun trip) e.pace in

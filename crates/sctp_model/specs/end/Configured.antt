@@ -1,7 +1,8 @@
 -- What an endpoint may be set up with: the limits of a configuration, and the faults of one beyond them.
 use Rattle.std.specs.Prelude.{ℕ, ◌+◌, ◌^◌, ◌<◌, ◌≤◌, ◌==◌, nat_le, Bool, false, not, ◌&&◌, ◌||◌, [], ◌∷◌, Option}
 use Rattle.sctp_model.specs.wire.Chunk.{padded}
-use Rattle.sctp_model.specs.numbers.Limits.{STREAM_LIMIT, LEAST_PACKET, GREATEST_PACKET, LEAST_FRAGMENT, GREATEST_FRAGMENT, FRAGMENT_OVERHEAD, LEAST_BUFFER, GREATEST_BUFFER, LEAST_WAIT}
+use Rattle.sctp_model.specs.numbers.Limits.{STREAM_LIMIT, LEAST_PACKET, GREATEST_PACKET, LEAST_FRAGMENT, GREATEST_FRAGMENT, FRAGMENT_OVERHEAD, LEAST_BUFFER}
+use Rattle.sctp_model.specs.numbers.Limits.{GREATEST_BUFFER, LEAST_WAIT}
 use Rattle.sctp_model.specs.sender.Words.{when, first_there}
 use Rattle.sctp_model.specs.end.EndView.{Configuration}
 

@@ -81,13 +81,15 @@ control_expired k = let x = lessened k in record x { cwnd = x.size; burst = 1; r
 
 -- ---- after an acknowledgement
 
--- With this much in flight, Max.Burst packets may be sent (6.1, rule D). An acknowledgement of nothing new leaves the limit as it is: after an expiry only one packet is in flight
--- until something is acknowledged (7.2.1). partial_bytes_acked is 0 if nothing is in flight (7.2.2).
+-- With this much in flight, Max.Burst packets may be sent (6.1, rule D). An acknowledgement of nothing new leaves the limit as it is: after an expiry only
+-- one packet is in flight until something is acknowledged (7.2.1). partial_bytes_acked is 0 if nothing is in flight (7.2.2).
 abbrev pub bursting : (flight bytes : ℕ) → Control → Control
-bursting flight bytes k = record k { burst = if bytes == 0 then k.burst else min (flight + BURST * k.size) GREATEST_WINDOW; acked = if flight == 0 then 0 else k.acked }
+bursting flight bytes k =
+    record k { burst = if bytes == 0 then k.burst else min (flight + BURST * k.size) GREATEST_WINDOW; acked = if flight == 0 then 0 else k.acked }
 
--- All that an acknowledgement does: `flight` bytes were in flight before it, `left` are after it; `bytes` it newly acknowledges; `lost`: Fast Recovery begins. `grows`: it moved CUM
--- outside Fast Recovery, which is when acknowledged bytes are counted (7.2.1 and 7.2.2 count them also if CUM stays, outside Fast Recovery: here the window grows more slowly then).
+-- All that an acknowledgement does: `flight` bytes were in flight before it, `left` are after it; `bytes` it newly acknowledges; `lost`: Fast Recovery
+-- begins. `grows`: it moved CUM outside Fast Recovery, which is when acknowledged bytes are counted (7.2.1 and 7.2.2 count them also if CUM stays, outside
+-- Fast Recovery: here the window grows more slowly then).
 abbrev pub control_heard : (grows lost : Bool) → (flight bytes left : ℕ) → Control → Control
 control_heard grows lost flight bytes left k =
     let x = if grows then grown flight bytes k else k in
@@ -95,7 +97,8 @@ control_heard grows lost flight bytes left k =
 
 -- ---- the space for fragments
 
--- less is in flight than the window and the limit of bursts (6.1, rules B and D): then a packet may be filled, so that the window is exceeded by less than one packet
+-- less is in flight than the window and the limit of bursts (6.1, rules B and D): then a packet may be filled, so that the window is exceeded by less than
+-- one packet
 abbrev pub is_let_in : (flight : ℕ) → Control → Bool
 is_let_in flight k = nat_lt flight (min k.cwnd k.burst)
 
@@ -104,6 +107,7 @@ abbrev pub room_of_repeats : Format → List Wish → ℕ
 room_of_repeats f [] = 0
 room_of_repeats f (w ∷ ws) = if w.view.sent w.index then room_of f w + room_of_repeats f ws else 0
 
--- Of this space: all, if the window allows; only that of the retransmissions, if a packet of them may be sent whatever the window is (7.2.4, step 3); else none.
+-- Of this space: all, if the window allows; only that of the retransmissions, if a packet of them may be sent whatever the window is (7.2.4, step 3); else
+-- none.
 abbrev pub room_controlled : Control → Format → (room : ℕ) → SenderView → ℕ
 room_controlled k f room v = if is_let_in (in_flight v) k then room else if k.rescue then room_of_repeats f (fill f room v).wishes else 0

@@ -8,7 +8,7 @@ use Rattle.sctp_model.specs.receiver.ReceiverView.{ReceiverView, fresh_receiver}
 use Rattle.sctp_model.specs.end.Sealing.{Sealing}
 use Rattle.sctp_model.specs.end.Pacing.{Pace}
 
--- What an end is set up with. Sizes are in bytes, `outbound` and `inbound` count streams.
+-- What an endpoint is set up with. Sizes are in bytes, `outbound` and `inbound` count streams.
 pub record Configuration : Type 0 where
   pub own_port : ℕ
   pub peer_port : ℕ
@@ -31,70 +31,70 @@ pub record Configuration : Type 0 where
   -- it may reset its streams, and its peer may (RFC 6525)
   pub reset : Bool
 
--- What chance gives to an end that begins: the tag that packets to it will carry, and the TSN of its index 1 (RFC 9260, 5.3.1 and 3.3.2).
+-- The random values of an endpoint that begins: the tag that packets to it will carry, and the TSN of its index 1 (RFC 9260, 5.3.1 and 3.3.2).
 pub record Draw : Type 0 where
   pub tag : ℕ
   pub tsn : ℕ
 
--- What may be drawn: a tag that isn't 0, and a first TSN, both of 32 bits (RFC 9260, 5.3.1 and 3.3.2).
+-- Which random values may be: a tag that isn't 0, and a first TSN, both of 32 bits (RFC 9260, 5.3.1 and 3.3.2).
 pub record IsDraw (d : Draw) : Type 0 where
   pub some : 0 < d.tag
   pub tag : d.tag < 2 ^ 32
   pub tsn : d.tsn < 2 ^ 32
 
--- The verification tags of an association, as one end sees them: packets to it carry the first, packets from it the second (RFC 9260, 8.5).
+-- The verification tags of an association, as one endpoint sees them: packets to it carry the first, packets from it the second (RFC 9260, 8.5).
 pub record Tags : Type 0 where
   pub own : ℕ
   pub peer : ℕ
 
--- ---- where an end stands in its life
+-- ---- the states of an endpoint
 
--- How an association ended, as the end itself saw it.
+-- How an association ended, as the endpoint itself saw it.
 pub data Ended : Type 0 where
-  -- both ends had shut it, and said so (RFC 9260, 9.2)
+  -- both endpoints had shut it, and said so (RFC 9260, 9.2)
   Completed : Ended
-  -- the peer aborted it; this end or its user did (9.1)
+  -- the peer aborted it; this endpoint or its user did (9.1)
   Aborted AbortedHere : Ended
   -- a packet was repeated as often as may be (8.1)
   TimedOut : Ended
   -- the listener found the cookie too old (5.2.6)
   StaleCookie : Ended
 
--- The states in which an association has both its ends (RFC 9260, 4).
+-- The states in which an association has both its endpoints (RFC 9260, 4).
 pub data Stage : Type 0 where
   -- both users may send
   Established : Stage
   -- the user has no more to send; what waits still goes out
   ShutdownPending : Stage
-  -- all was acknowledged, and the peer is told
+  -- all was acknowledged, and SHUTDOWN is sent
   ShutdownSent : Stage
   -- the peer has no more to send; what waits here still goes out
   ShutdownReceived : Stage
   -- all was acknowledged here too, and the peer is answered
   ShutdownAckSent : Stage
 
--- Every state, each with what an end remembers in it alone.
+-- Every state, each with what an endpoint remembers in it alone.
 pub data Phase : Type 0 where
   -- CLOSED, and nothing happened yet
   Idle : Phase
-  -- the listener, which remembers nothing until a cookie comes (RFC 9260, 5.1)
+  -- the listener, which remembers nothing until a cookie arrives (RFC 9260, 5.1)
   Listening : Phase
-  -- COOKIE-WAIT: the caller remembers what it drew
+  -- COOKIE-WAIT: the caller remembers its random values
   Calling : Draw → Phase
   -- COOKIE-ECHOED: it knows both tags, and the cookie that it sends back
   Echoing : (tags : Tags) (cookie : List ℕ) → Phase
-  -- the five states with both ends
+  -- the five states with both endpoints
   Open : (tags : Tags) (stage : Stage) → Phase
   -- CLOSED, and over for good
   Over : Ended → Phase
 
--- The states by their names, as the user of an end is told them (RFC 9260, 4 and 11.1).
+-- The states by their names, as they are reported to the user of an endpoint (RFC 9260, 4 and 11.1).
 pub data State : Type 0 where
   Closed Listen CookieWait CookieEchoed : State
-  -- one of the five with both ends
+  -- one of the five with both endpoints
   InStage : Stage → State
 
--- the state of an end
+-- the state of an endpoint
 abbrev pub state_of : Phase → State
 state_of Idle = Closed
 state_of Listening = Listen
@@ -108,15 +108,16 @@ abbrev pub ended_of : Phase → Option Ended
 ended_of (Over why) = Some why
 ended_of h = None
 
--- How an end came to be: it calls, it listens and has a seal for its cookies, or it was opened together with its peer, without packets.
+-- How an endpoint began: it calls, it listens and has a seal for its cookies, or it was opened together with its peer, without packets.
 pub data Role : Type 0 where
   Caller : Role
   Listener : (seal : Sealing) → Role
   Paired : Role
 
--- ---- what both ends agreed on
+-- ---- what both endpoints agreed on
 
--- The first TSNs, the streams out of and into this end, and what is turned on: I-DATA, partial reliability (RFC 9260, 5.1.1; RFC 8260, 2.2.1; RFC 3758, 3.1).
+-- The first TSNs, the streams out of and into this endpoint, and what is turned on: I-DATA, partial reliability (RFC 9260, 5.1.1; RFC 8260, 2.2.1; RFC
+-- 3758, 3.1).
 pub record Terms : Type 0 where
   pub own_tsn : ℕ
   pub peer_tsn : ℕ
@@ -138,14 +139,14 @@ format_for false = Plain
 
 -- ---- what is due
 
--- What goes into an end's next packets, in the order in which a packet is filled (RFC 9260, 6.10).
+-- What goes into an endpoint's next packets, in the order in which a packet is filled (RFC 9260, 6.10).
 pub record Due : Type 0 where
   pub init : Bool
   pub cookie_echo : Bool
   pub cookie_ack : Bool
   -- the value that the last HEARTBEAT asks back (8.3)
   pub heartbeat : Option (List ℕ)
-  -- what the peer is to be told in one ERROR (3.3.10)
+  -- what is to be reported to the peer in one ERROR (3.3.10)
   pub causes : List Typed
   pub sack : Bool
   -- FORWARD-TSN, or I-FORWARD-TSN with I-DATA on (RFC 3758, 3.5; RFC 8260, 2.3.1)
@@ -157,7 +158,18 @@ pub record Due : Type 0 where
 
 -- nothing at all
 abbrev pub nothing_due : Due
-nothing_due = record { init = false; cookie_echo = false; cookie_ack = false; heartbeat = None; causes = []; sack = false; forward = false; request = false; shutdown = false; shutdown_ack = false }
+nothing_due = record {
+  init = false;
+  cookie_echo = false;
+  cookie_ack = false;
+  heartbeat = None;
+  causes = [];
+  sack = false;
+  forward = false;
+  request = false;
+  shutdown = false;
+  shutdown_ack = false;
+}
 
 -- ---- timers
 
@@ -169,8 +181,8 @@ pub data Alarm : Type 0 where
   ShutdownAlarm AckAlarm : Alarm
   ResetAlarm : Alarm
 
--- A timer, in milliseconds: how long it will wait when it starts next, how many times it expired since all was well, and the moment at which it
--- expires while it runs.
+-- A timer, in milliseconds: how long it will wait when it starts next, how many times it expired since all was well, and the time at which it expires while
+-- it runs.
 pub record Timer : Type 0 where
   pub wait : ℕ
   pub repeats : ℕ
@@ -180,19 +192,19 @@ pub record Timer : Type 0 where
 abbrev pub unused_timer : Timer
 unused_timer = record { wait = FIRST_WAIT; repeats = 0; expiry = None }
 
--- ---- the end
+-- ---- the endpoint
 
--- An end. Terms, sender and receiver belong to the association: until there is one nothing stands in them, so that its user is told of no message
--- and no ticket, and once it is over they stay for its user to read.
+-- An endpoint. Terms, sender and receiver belong to the association: until there is one they are empty, so that no message and no ticket is reported to its
+-- user; once it is over they stay for its user to read.
 pub record EndView : Type 0 where
   pub configuration : Configuration
   pub role : Role
   pub phase : Phase
-  -- the latest moment that it was told
+  -- the latest time that it was given
   pub moment : ℕ
   pub due : Due
   pub timers : Alarm → Timer
-  -- the moment at which a SACK that waits is due, while one waits (RFC 9260, 6.2)
+  -- the time at which a delayed SACK is due, while one is delayed (RFC 9260, 6.2)
   pub delayed : Option ℕ
   -- its state of round trips, misses and congestion control, if it is set up for them (RFC 9260, 6.3.1 and 7.2)
   pub pace : Option Pace
@@ -200,7 +212,7 @@ pub record EndView : Type 0 where
   pub sender : SenderView
   pub receiver : ReceiverView
 
--- an end as it is made, in CLOSED or listening
+-- an endpoint as it is made, in CLOSED or listening
 abbrev pub fresh_end : Configuration → Role → Phase → EndView
 fresh_end c r h = record {
   configuration = c;

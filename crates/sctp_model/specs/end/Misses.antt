@@ -4,8 +4,9 @@ use Rattle.sctp_model.specs.sender.SenderView.{SenderView}
 use Rattle.sctp_model.specs.sender.Words.{when, lowest, last_that}
 use Rattle.sctp_model.specs.sender.Entries.{is_in_flight, passes_at}
 
--- The state of miss indications. An acknowledgement is a miss indication for each index that it doesn't acknowledge below the highest that it newly acknowledges (HTNA). Fragments are
--- sent for the first time by rising index, so that each index below the third largest of these highest ones, if it isn't acknowledged, has three.
+-- The state of miss indications. An acknowledgement is a miss indication for each index that it doesn't acknowledge below the highest that it newly
+-- acknowledges (HTNA). Fragments are sent for the first time by rising index, so that each index below the third largest of these highest ones, if it isn't
+-- acknowledged, has three.
 pub record Misses : Type 0 where
   -- the three largest of the highest ones
   pub first : ℕ
@@ -16,8 +17,8 @@ pub record Misses : Type 0 where
   -- in Fast Recovery: its exit point (7.2.4, step 6)
   pub exit : Option ℕ
 
--- Before the first acknowledgement, and after an expiry of the data timer: then all that was sent is retransmitted, by rising index too, so that misses are counted anew, and Fast
--- Recovery is over.
+-- Before the first acknowledgement, and after an expiry of the data timer: then all that was sent is retransmitted, by rising index too, so that misses are
+-- counted anew, and Fast Recovery is over.
 abbrev pub fresh_misses : Misses
 fresh_misses = record { first = 0; second = 0; third = 0; passed = 0; exit = None }
 
@@ -31,7 +32,8 @@ moves v u = nat_lt v.cum u.cum
 abbrev pub is_newly_covered : (v u : SenderView) → ℕ → Bool
 is_newly_covered v u i = v.sent i && (u.covered i && not (v.covered i))
 
--- The index below which it is a miss indication (HTNA): the highest that it newly acknowledges; in Fast Recovery, if it moved CUM, the highest that it acknowledges.
+-- The index below which it is a miss indication (HTNA): the highest that it newly acknowledges; in Fast Recovery, if it moved CUM, the highest that it
+-- acknowledges.
 abbrev pub newest : (recovering : Bool) → (v u : SenderView) → ℕ
 newest recovering v u =
     last_that (λ i. is_newly_covered v u i || (recovering && (moves v u && u.covered i))) (length v.plan.entries)
@@ -60,7 +62,7 @@ last_sent u = last_that u.sent (length u.plan.entries)
 abbrev pub recovery_at : (cum : ℕ) → Option ℕ → Option ℕ
 recovery_at cum o = option_and_then (λ i. when (nat_lt cum i) i) o
 
--- The state after an acknowledgement that gave some index its third miss indication, or none: Fast Recovery begins, unless it is on, and its exit point is the highest index that was
--- sent (step 6). Each index has one third miss indication.
+-- The state after an acknowledgement that gave some index its third miss indication, or none: Fast Recovery begins, unless it is on, and its exit point is
+-- the highest index that was sent (step 6). Each index has one third miss indication.
 abbrev pub missed_once : SenderView → (some : Bool) → Misses → Misses
 missed_once u some m = record m { passed = max m.passed m.third; exit = if some && not (is_some m.exit) then Some (last_sent u) else m.exit }

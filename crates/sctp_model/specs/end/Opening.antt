@@ -1,5 +1,6 @@
 -- How an association begins: INIT, INIT ACK, COOKIE ECHO, COOKIE ACK (RFC 9260, 5.1).
-use Rattle.std.specs.Prelude.{◌≡◌, ℕ, ◌-◌, ◌*◌, ◌^◌, ◌<◌, ◌⊎◌, min, nat_le, Bool, true, false, not, ◌&&◌, ◌||◌, ◌==◌, if◌then◌else◌, List, [], ◌∷◌, ◌++◌, Option, Some, None}
+use Rattle.std.specs.Prelude.{◌≡◌, ℕ, ◌-◌, ◌*◌, ◌^◌, ◌<◌, ◌⊎◌, min, nat_le, Bool, true, false, not, ◌&&◌, ◌||◌, ◌==◌, if◌then◌else◌, List, [], ◌∷◌, ◌++◌}
+use Rattle.std.specs.Prelude.{Option, Some, None}
 use Rattle.sctp_model.specs.numbers.Limits.{COOKIE_LIFE, FIRST_WAIT, LONGEST_WAIT}
 use Rattle.sctp_model.specs.numbers.Numbers.{u16_bytes, u32_bytes}
 use Rattle.sctp_model.specs.wire.Typed.{Typed, typed_in}
@@ -11,16 +12,18 @@ use Rattle.sctp_model.specs.sender.SenderView.{fresh_sender}
 use Rattle.sctp_model.specs.receiver.ReceiverView.{fresh_receiver}
 use Rattle.sctp_model.specs.end.Sealing.{Body, Sealing}
 use Rattle.sctp_model.specs.end.Pacing.{Pace, fresh_pace}
-use Rattle.sctp_model.specs.end.EndView.{Terms, Configuration, Draw, Tags, AbortedHere, Stage, Established, Phase, Idle, Calling, Echoing, Open, Role, Caller, Paired, Listener, CookieAlarm, EndView, fresh_end}
+use Rattle.sctp_model.specs.end.EndView.{Terms, Configuration, Draw, Tags, AbortedHere, Stage, Established, Phase, Idle, Calling, Echoing, Open, Role}
+use Rattle.sctp_model.specs.end.EndView.{Caller, Paired, Listener, CookieAlarm, EndView, fresh_end}
 use Rattle.sctp_model.specs.end.Clock.{turned, closed, echo_trip, measured}
 use Rattle.sctp_model.specs.end.Closing.{with_due, takes_cookies, hears}
-use Rattle.sctp_model.specs.end.Reports.{written, item, fits_alone, causes_with, as_fit, MISSING_PARAMETER, OUT_OF_RESOURCE, INVALID_PARAMETER, UNRECOGNIZED_PARAMETERS}
+use Rattle.sctp_model.specs.end.Reports.{written, item, fits_alone, causes_with, as_fit, MISSING_PARAMETER, OUT_OF_RESOURCE, INVALID_PARAMETER}
+use Rattle.sctp_model.specs.end.Reports.{UNRECOGNIZED_PARAMETERS}
 use Rattle.sctp_model.specs.end.Options.{STATE_COOKIE, value_of, agreed_interleave, agreed_partial, agreed_reset, own_options, reports_of}
 use Rattle.sctp_model.specs.end.PeerFaults.{TAG, COOKIE, Unnoted, After, GoesOn, PassedOver, Replies, Drops, packet_to, abort_for}
 
 -- ---- an association that begins
 
--- the tags that two draws give: the one's own, and its peer's (RFC 9260, 5.3.1)
+-- the tags by an endpoint's own random values and its peer's (RFC 9260, 5.3.1)
 abbrev pub tags_between : Draw → Draw → Tags
 tags_between own peer = record { own = own.tag; peer = peer.tag }
 
@@ -28,7 +31,7 @@ tags_between own peer = record { own = own.tag; peer = peer.tag }
 abbrev pub pace_for : Configuration → (window : ℕ) → Option Pace
 pace_for c window = when c.fast_retransmit (fresh_pace c.congestion_control (c.limit - size_of_packet []) window)
 
--- The end joins an association on these terms: nothing is sent or heard in it yet. `window` is the peer's, in bytes.
+-- The endpoint joins an association on these terms: nothing is sent or heard in it yet. `window` is the peer's, in bytes.
 abbrev pub joined : Terms → (window : ℕ) → EndView → EndView
 joined x window e = record e {
   pace = pace_for e.configuration window;
@@ -37,8 +40,8 @@ joined x window e = record e {
   receiver = fresh_receiver x.peer_tsn x.inbound e.configuration.buffer;
 }
 
--- The terms of a caller with this draw whom this INIT ACK answers. Each way has the lesser of the streams that its sender asks for and of those that
--- its receiver allows (RFC 9260, 5.1.1).
+-- The terms of a caller with these random values, to which this INIT ACK is an answer. Each way has the lesser of the streams that its sender asks for and
+-- of those that its receiver allows (RFC 9260, 5.1.1).
 abbrev pub terms_of_ack : Configuration → Draw → InitMeaning → Terms
 terms_of_ack c d m = record {
   own_tsn = d.tsn;
@@ -62,7 +65,7 @@ terms_of_body b = record {
   reset = b.reset;
 }
 
--- What an end takes to be agreed on with a peer that is set up like itself, and drew this.
+-- What an endpoint takes to be agreed on with a peer that is set up like itself, with these random values.
 abbrev pub terms_alike : Configuration → Draw → Draw → Terms
 terms_alike c own peer = record {
   own_tsn = own.tsn;
@@ -74,13 +77,14 @@ terms_alike c own peer = record {
   reset = c.reset;
 }
 
--- an end that is opened without packets: established at once, its peer's window the buffer of its own
+-- an endpoint that is opened without packets: established at once, its peer's window the buffer of its own
 abbrev pub opened : Configuration → Draw → Draw → EndView
 opened c own peer = record (joined (terms_alike c own peer) c.buffer (fresh_end c Paired Idle)) { phase = Open (tags_between own peer) Established }
 
 -- ---- INIT (5.1.1)
 
--- What an end says of itself to one that it wants an association with, in INIT and in INIT ACK alike: its draw, its room, its streams (3.3.2).
+-- What an endpoint says of itself to one that it wants an association with, in INIT and in INIT ACK alike: its tag and first TSN, its receiver window, its
+-- streams (3.3.2).
 abbrev pub introduction : Configuration → Draw → List ℕ → InitMeaning
 introduction c d parameters =
     record { tag = d.tag; rwnd = c.buffer; outbound = c.outbound; inbound = c.inbound; tsn = d.tsn; parameters = parameters }
@@ -108,7 +112,7 @@ body_for e d m =
       reset = agreed_reset c m.parameters;
     }
 
--- the INIT ACK that holds these reports: of parameters the cookie comes first, then the listener's options (3.3.3)
+-- the INIT ACK that holds these reports: the first parameter is the cookie, then the listener's options (3.3.3)
 abbrev pub init_ack_with : Sealing → EndView → Draw → InitMeaning → List Typed → ChunkMeaning
 init_ack_with s e d m reports =
     InitAck (introduction e.configuration d (written (item STATE_COOKIE (s.sealed (body_for e d m)) ∷ (own_options e.configuration ++ reports))))
@@ -156,7 +160,7 @@ abbrev pub is_calling : Phase → Bool
 is_calling (Calling d) = true
 is_calling h = false
 
--- What an INIT ACK does (5.1, C): a caller takes the first that it may, and passes over all that come later, as it waits for none any more (5.2.3).
+-- What an INIT ACK does (5.1, C): a caller takes the first that it may, and passes over all that arrive later, as it waits for none any more (5.2.3).
 pub data InitAckActs (e : EndView) (m : InitMeaning) : After → Type 0 where
   NotCalling : is_calling e.phase ≡ false → InitAckActs e m PassedOver
   NoTag : (d : Draw) → e.phase ≡ Calling d → m.tag ≡ 0 → InitAckActs e m (Drops TAG)
@@ -167,15 +171,15 @@ pub data InitAckActs (e : EndView) (m : InitMeaning) : After → Type 0 where
 
 -- ---- COOKIE ECHO (5.1.5 and 5.2.4)
 
--- the milliseconds from when a cookie was made to this moment; none if that was later
+-- the milliseconds from when a cookie was made to this time; 0 if that was later
 abbrev pub age : (moment : ℕ) → Body → ℕ
 age moment b = moment - b.made
 
--- by how many microseconds it outlived its life, as far as the field of 32 bits can tell (3.3.10.3)
+-- by how many microseconds it outlived its life, as far as the field of 32 bits can say (3.3.10.3)
 abbrev pub staleness : (moment : ℕ) → Body → ℕ
 staleness moment b = min ((age moment b - COOKIE_LIFE) * 1000) (2 ^ 32 - 1)
 
--- The cookie was made for this pair of ports, and for the tag under which it came back (5.1.5, item 2).
+-- The cookie was made for this pair of ports, and for the tag under which it was returned (5.1.5, item 2).
 abbrev pub is_addressed : EndView → ℕ → Body → Bool
 is_addressed e tag b =
     (b.listener.port == e.configuration.own_port) && ((b.caller.port == e.configuration.peer_port) && (b.listener.tag == tag))
@@ -192,7 +196,8 @@ pub data CookieRead : Type 0 where
 -- what a listener reads in a body, or in none
 abbrev pub body_read : EndView → ℕ → Option Body → CookieRead
 body_read e tag None = Strange
-body_read e tag (Some b) = if is_addressed e tag b && is_formed e b then (if nat_le (age e.moment b) COOKIE_LIFE then CookieOpens b else CookieLate b) else Strange
+body_read e tag (Some b) =
+    if is_addressed e tag b && is_formed e b then (if nat_le (age e.moment b) COOKIE_LIFE then CookieOpens b else CookieLate b) else Strange
 
 -- what a listener reads in the bytes of a cookie
 abbrev pub cookie_read : Sealing → EndView → ℕ → List ℕ → CookieRead
@@ -228,7 +233,7 @@ seal_in (Listener s) = Some s
 seal_in Caller = None
 seal_in Paired = None
 
--- What a COOKIE ECHO does if the association is there already: its COOKIE ACK may have been lost, so it is told once more (5.2.4).
+-- What a COOKIE ECHO does if the association is there already: its COOKIE ACK may have been lost, so it is sent once more (5.2.4).
 pub data EchoActs (e : EndView) (tag : ℕ) (xs : List ℕ) : After → Type 0 where
   NotHere : (seal_in e.role ≡ None) ⊎ (hears takes_cookies e.phase ≡ false) → EchoActs e tag xs PassedOver
   EchoedAgain : (s : Sealing) (t : Tags) (g : Stage) → seal_in e.role ≡ Some s → e.phase ≡ Open t g → takes_cookies g ≡ true →

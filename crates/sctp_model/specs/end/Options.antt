@@ -28,7 +28,7 @@ FORWARD_TSN_SUPPORTED = 0xC000
 abbrev pub value_of : ℕ → List ℕ → Option (List ℕ)
 value_of k bytes = first_of k (parameters_acted_on (typed_in bytes))
 
--- ---- what both ends want
+-- ---- what both endpoints want
 
 -- the byte is among these
 abbrev pub has_byte : ℕ → List ℕ → Bool
@@ -59,7 +59,7 @@ agreed_partial c bytes =
 abbrev pub agreed_reset : Configuration → List ℕ → Bool
 agreed_reset c bytes = c.reset && lists_type RECONFIG (value_of SUPPORTED_EXTENSIONS bytes)
 
--- ---- an end's own options
+-- ---- an endpoint's own options
 
 -- the chunk types of its extensions, rising (RFC 5061, 4.2.7)
 abbrev pub own_extensions : Configuration → List ℕ
@@ -72,7 +72,7 @@ abbrev pub unless_empty : List ℕ → List Typed
 unless_empty [] = []
 unless_empty (x ∷ xs) = item SUPPORTED_EXTENSIONS (x ∷ xs) ∷ []
 
--- what an end says of its options, in INIT and in INIT ACK (RFC 9260, 3.3.2 and 3.3.3)
+-- what an endpoint says of its options, in INIT and in INIT ACK (RFC 9260, 3.3.2 and 3.3.3)
 abbrev pub own_options : Configuration → List Typed
 own_options c = (if c.partial then item FORWARD_TSN_SUPPORTED [] ∷ [] else []) ++ unless_empty (own_extensions c)
 

@@ -26,8 +26,8 @@ fresh_pace controls size window =
 
 -- ---- an acknowledgement: `v` is the sender before it, `u` the sender after it
 
--- What it leaves: the sender, in which what has its third miss indication is marked for retransmission; the pace; the round trip that it measured; whether it moved CUM; whether the
--- data timer is restarted.
+-- What it leaves: the sender, in which what has its third miss indication is marked for retransmission; the pace; the round trip that it measured; whether
+-- it moved CUM; whether the data timer is restarted.
 pub record Heard : Type 0 where
   pub sender : SenderView
   pub pace : Pace
@@ -41,8 +41,8 @@ misses_heard v u m =
     let x = record m { exit = recovery_at u.cum m.exit } in
     noticed (newest (is_some x.exit) v u) x
 
--- It arrives at this time. The timer is restarted if CUM moved (RFC 9260, 6.3.2, rule R3), or if the first outstanding fragment has its third miss indication: it is retransmitted (7.2.4, step 4) or,
--- if it may not be again, a FORWARD is sent in its place.
+-- It arrives at this time. The timer is restarted if CUM moved (RFC 9260, 6.3.2, rule R3), or if the first outstanding fragment has its third miss
+-- indication: it is retransmitted (7.2.4, step 4) or, if it may not be again, a FORWARD is sent in its place.
 abbrev pub heard : (now : ℕ) → (v u : SenderView) → Pace → Heard
 heard now v u p =
     let m = misses_heard v u p.misses in
@@ -67,7 +67,8 @@ heard now v u p =
 abbrev pub wait_measured : (least : ℕ) → Option Smoothed → ℕ
 wait_measured least s = unwrap_or (option_map (wait_of least) s) FIRST_WAIT
 
--- The RTO after it: the one computed, if it measured a round trip, or moved CUM, so that the peer can be reached: a doubled RTO is reset then, not by a measurement alone (6.3.3, after E3); else it stays.
+-- The RTO after it: the one computed, if it measured a round trip, or moved CUM, so that the peer can be reached: a doubled RTO is reset then, not by a
+-- measurement alone (6.3.3, after E3); else it stays.
 abbrev pub wait_heard : (least wait : ℕ) → Heard → ℕ
 wait_heard least wait h = if is_some h.trip || h.moved then wait_measured least h.pace.trips.smoothed else wait
 

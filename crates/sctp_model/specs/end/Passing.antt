@@ -4,18 +4,18 @@ use Rattle.sctp_model.specs.wire.Chunk.{ChunkMeaning, Init, Abort, ShutdownCompl
 use Rattle.sctp_model.specs.wire.Packet.{Packet}
 use Rattle.sctp_model.specs.end.EndView.{Configuration, Phase, Calling, Echoing, Open}
 
--- It comes from the port that this end's peer has, and goes to this end's own.
+-- It is from the port of this endpoint's peer, and to this endpoint's own.
 abbrev pub has_ports : Configuration → Packet → Bool
 has_ports c p = (p.destination == c.own_port) && (p.source == c.peer_port)
 
--- An ABORT or a SHUTDOWN COMPLETE with T = 1 shows the tag of the packet that it answers: it comes from an end that knows no other (8.5.1).
+-- An ABORT or a SHUTDOWN COMPLETE with T = 1 shows the tag of the packet that it answers: it is from an endpoint that knows no other (8.5.1).
 abbrev pub is_reflected : ChunkMeaning → Bool
 is_reflected (Abort shown causes) = shown
 is_reflected (ShutdownComplete shown) = shown
 is_reflected x = false
 
--- The tag is one that the end looks for: its own, or its peer's if it is reflected. A caller has no peer's tag yet, and an end without an association
--- asks for none.
+-- The tag is one that the endpoint looks for: its own, or its peer's if it is reflected. A caller has no peer's tag yet, and an endpoint without an
+-- association asks for none.
 abbrev pub passes_tag : Phase → (reflected : Bool) → ℕ → Bool
 passes_tag (Calling d) reflected tag = not reflected && (tag == d.tag)
 passes_tag (Echoing t xs) reflected tag = tag == (if reflected then t.peer else t.own)

@@ -29,7 +29,7 @@ abbrev pub COOKIE : ℕ
 COOKIE = 5
 
 -- What is noted of a chunk for the end of its packet (6.2): nothing, or that it is to be acknowledged, be it user data or a FORWARD; at once, if that may
--- not wait for another packet, which matters only to an end that delays its SACKs.
+-- not wait for another packet, which matters only to an endpoint that delays its SACKs.
 pub data Note : Type 0 where
   Unnoted : Note
   ToAcknowledge : (is_data at_once : Bool) → Note
@@ -43,7 +43,7 @@ pub data After : Type 0 where
   Replies : EndView → Packet → After
   Drops : (reason : ℕ) → After
 
--- a packet of one chunk, from this end (3)
+-- a packet of one chunk, from this endpoint (3)
 abbrev pub packet_to : Configuration → ℕ → ChunkMeaning → Packet
 packet_to c tag x = record { source = c.own_port; destination = c.peer_port; tag = tag; chunks = x ∷ [] }
 
@@ -51,7 +51,7 @@ packet_to c tag x = record { source = c.own_port; destination = c.peer_port; tag
 abbrev pub abort_for : Typed → ChunkMeaning
 abort_for x = Abort false (written (x ∷ []))
 
--- the end closes with an ABORT, which goes to the peer's tag (9.1)
+-- the endpoint closes with an ABORT, which goes to the peer's tag (9.1)
 abbrev pub at_fault : Tags → Typed → EndView → After
 at_fault t x e = Replies (closed AbortedHere e) (packet_to e.configuration t.peer (abort_for x))
 

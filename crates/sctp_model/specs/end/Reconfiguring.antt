@@ -2,7 +2,8 @@
 use Rattle.std.specs.Prelude.{ℕ, ◌==◌, Bool, true, false, ◌&&◌, if◌then◌else◌, List, [], ◌∷◌, ◌++◌, drop, is_some}
 use Rattle.sctp_model.specs.numbers.Numbers.{u32_at}
 use Rattle.sctp_model.specs.wire.Typed.{Typed}
-use Rattle.sctp_model.specs.wire.Reconfig.{RECONFIG, OUTGOING_RESET, RECONFIG_RESPONSE, reconfig_chunk, ResetMeaning, reset_read, is_parameter, is_other_request, response_item, ResetResult, Denied, is_progress_code}
+use Rattle.sctp_model.specs.wire.Reconfig.{RECONFIG, OUTGOING_RESET, RECONFIG_RESPONSE, reconfig_chunk, ResetMeaning, reset_read, is_parameter}
+use Rattle.sctp_model.specs.wire.Reconfig.{is_other_request, response_item, ResetResult, Denied, is_progress_code}
 use Rattle.sctp_model.specs.sender.Resetting.{is_open_number, may_ask, asked, response_taken}
 use Rattle.sctp_model.specs.receiver.ReceiverView.{ReceiverView}
 use Rattle.sctp_model.specs.receiver.ResetTaken.{reset_answer, answer_in_turn, reset_taken, denied, with_answers}
@@ -15,7 +16,8 @@ use Rattle.sctp_model.specs.end.Reports.{fits_alone}
 
 -- A response joins those that wait, unless the chunk of them all would exceed the packet limit: then the peer retransmits its request.
 abbrev pub answers_with : EndView → Typed → List Typed
-answers_with e x = if fits_alone e (reconfig_chunk (e.receiver.resets.answers ++ x ∷ [])) then e.receiver.resets.answers ++ x ∷ [] else e.receiver.resets.answers
+answers_with e x =
+    if fits_alone e (reconfig_chunk (e.receiver.resets.answers ++ x ∷ [])) then e.receiver.resets.answers ++ x ∷ [] else e.receiver.resets.answers
 
 -- the request with this number leaves this receiver, and has this result
 abbrev pub answering : EndView → (number : ℕ) → ResetResult → ReceiverView → EndView

@@ -21,7 +21,7 @@ INVALID_STREAM = 1
 abbrev pub MISSING_PARAMETER : ℕ
 MISSING_PARAMETER = 2
 
--- the cookie came too late (3.3.10.3)
+-- the cookie arrived too late (3.3.10.3)
 abbrev pub STALE_COOKIE : ℕ
 STALE_COOKIE = 3
 
@@ -67,11 +67,11 @@ fits_alone e x = nat_le (size_of_packet (x ∷ [])) e.configuration.limit
 abbrev pub causes_with : EndView → Typed → List Typed
 causes_with e x = if fits_alone e (Error (written (e.due.causes ++ x ∷ []))) then e.due.causes ++ x ∷ [] else e.due.causes
 
--- the end with these causes waiting
+-- the endpoint with these causes waiting
 abbrev pub with_causes : List Typed → EndView → EndView
 with_causes xs e = record e { due = record e.due { causes = xs } }
 
--- Of items to report one by one, those that fit behind the ones taken before: `fits` says whether so many go in.
+-- Of items to report one by one, those that fit after the ones taken before: `fits` says whether a list of them does.
 abbrev pub as_fit : (List Typed → Bool) → List Typed → List Typed → List Typed
 as_fit fits taken [] = taken
 as_fit fits taken (x ∷ xs) = as_fit fits (if fits (taken ++ x ∷ []) then taken ++ x ∷ [] else taken) xs

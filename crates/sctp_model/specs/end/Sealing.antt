@@ -1,14 +1,14 @@
 -- A listener's cookie without its bytes: what is in it, and that the listener reads again what it sealed (RFC 9260, 5.1.3).
 use Rattle.std.specs.Prelude.{◌≡◌, ℕ, ◌^◌, ◌<◌, Bool, List, length, Option, Some}
 
--- One of the two ends, as a cookie remembers it: its port, the tag that packets to it carry, and its first TSN.
+-- One of the two endpoints, as a cookie remembers it: its port, the tag that packets to it carry, and its first TSN.
 pub record Party : Type 0 where
   pub port : ℕ
   pub tag : ℕ
   pub tsn : ℕ
 
--- What a listener would have to remember of an INIT and of its own answer, had it no cookie: the moment in milliseconds, both ends, the caller's
--- window in bytes, how many streams lead each way, and what is turned on (RFC 9260, 5.1.3).
+-- What a listener would have to remember of an INIT and of its own answer, had it no cookie: the time in milliseconds, both endpoints, the caller's window
+-- in bytes, how many streams lead each way, and what is turned on (RFC 9260, 5.1.3).
 pub record Body : Type 0 where
   pub made : ℕ
   pub listener : Party
@@ -26,7 +26,7 @@ pub record IsPartyInRange (x : Party) : Type 0 where
   pub tag : x.tag < 2 ^ 32
   pub tsn : x.tsn < 2 ^ 32
 
--- Every number has room in its field of the cookie.
+-- Every number fits its field of the cookie.
 pub record IsInRange (b : Body) : Type 0 where
   pub moment : b.made < 2 ^ 64
   pub parties : IsPartyInRange b.listener × IsPartyInRange b.caller

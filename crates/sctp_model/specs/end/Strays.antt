@@ -1,7 +1,8 @@
 -- A packet at an endpoint without an association: its first chunk decides, and the endpoint stays as it is (RFC 9260, 5.1 and 8.4).
 use Rattle.std.specs.Prelude.{ℕ, Bool, true, false, ◌||◌, ◌==◌, if◌then◌else◌, List, [], ◌∷◌, Option, Some, None}
 use Rattle.sctp_model.specs.numbers.Numbers.{u32_bytes}
-use Rattle.sctp_model.specs.wire.Chunk.{InitMeaning, ChunkMeaning, Data, IData, Init, InitAck, Sack, Heartbeat, HeartbeatAck, Abort, Shutdown, ShutdownAck, Error, CookieEcho, CookieAck, ShutdownComplete, ForwardTsn, IForwardTsn, Unknown}
+use Rattle.sctp_model.specs.wire.Chunk.{InitMeaning, ChunkMeaning, Data, IData, Init, InitAck, Sack, Heartbeat, HeartbeatAck, Abort, Shutdown, ShutdownAck}
+use Rattle.sctp_model.specs.wire.Chunk.{Error, CookieEcho, CookieAck, ShutdownComplete, ForwardTsn, IForwardTsn, Unknown}
 use Rattle.sctp_model.specs.wire.Packet.{Packet}
 use Rattle.sctp_model.specs.end.Sealing.{Body, Sealing}
 use Rattle.sctp_model.specs.end.EndView.{Draw, Phase, Listening, Role, EndView}
@@ -9,7 +10,7 @@ use Rattle.sctp_model.specs.end.Reports.{written, item, STALE_COOKIE, INVALID_PA
 use Rattle.sctp_model.specs.end.PeerFaults.{TAG, STATE, COOKIE, packet_to, abort_for}
 use Rattle.sctp_model.specs.end.Opening.{CookieRead, CookieOpens, CookieLate, Strange, cookie_read, staleness, seal_in, has_no_stream, init_ack}
 
--- What is told of a packet that came: it acted, it was dropped for a reason, or this packet is to be sent at once (RFC 9260, 8.4).
+-- What is returned of a packet that arrived: it acted, it was dropped for a reason, or this packet is to be sent at once (RFC 9260, 8.4).
 pub data Verdict : Type 0 where
   Taken : Verdict
   Dropped : (reason : ℕ) → Verdict
@@ -25,12 +26,12 @@ abbrev pub holds_abort : List ChunkMeaning → Bool
 holds_abort [] = false
 holds_abort (x ∷ xs) = is_abort x || holds_abort xs
 
--- the seal of an end that listens
+-- the seal of an endpoint that listens
 abbrev pub seal_at : Phase → Role → Option Sealing
 seal_at Listening r = seal_in r
 seal_at h r = None
 
--- the seal of an end that listens now
+-- the seal of an endpoint that listens now
 abbrev pub listens : EndView → Option Sealing
 listens e = seal_at e.phase e.role
 
@@ -41,7 +42,7 @@ init_verdict (Some s) e d m =
     if has_no_stream m then Answer (packet_to e.configuration m.tag (abort_for (item INVALID_PARAMETER [])))
     else Answer (packet_to e.configuration m.tag (init_ack s e d m))
 
--- a cookie that doesn't open: one that is too old alone is told by how much (5.1.5, item 3)
+-- a cookie that doesn't open: only of one that is too old is it reported, with by how much (5.1.5, item 3)
 abbrev pub cookie_verdict : EndView → CookieRead → Verdict
 cookie_verdict e (CookieLate b) = Answer (packet_to e.configuration b.caller.tag (Error (written (item STALE_COOKIE (u32_bytes (staleness e.moment b)) ∷ []))))
 cookie_verdict e (CookieOpens b) = Dropped COOKIE
@@ -76,12 +77,12 @@ first_verdict e d tag (Shutdown tsn) = refused e tag
 first_verdict e d tag (ForwardTsn m) = refused e tag
 first_verdict e d tag (IForwardTsn m) = refused e tag
 
--- what is told of these chunks
+-- the verdict on these chunks
 abbrev pub chunks_verdict : EndView → Draw → ℕ → List ChunkMeaning → Verdict
 chunks_verdict e d tag [] = Dropped STATE
 chunks_verdict e d tag (x ∷ xs) = if holds_abort (x ∷ xs) then Dropped STATE else first_verdict e d tag x
 
--- What is told of a packet at an end without an association.
+-- The verdict on a packet at an endpoint without an association.
 abbrev pub stray_verdict : EndView → Draw → Packet → Verdict
 stray_verdict e d p = chunks_verdict e d p.tag p.chunks
 

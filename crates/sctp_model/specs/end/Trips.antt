@@ -56,9 +56,11 @@ still_timed u o = option_and_then (λ t. when (not (u.marked t.index || u.covere
 abbrev pub was_given_up : SenderView → ℕ → Bool
 was_given_up v i = some_passes (is_of_abandoned v) (entry_at v.plan i)
 
--- The round trip that an acknowledgement measures, `v` the sender before it and `u` the sender after it: of the index that is timed, if it is newly acknowledged. RTO.Max at most.
+-- The round trip that an acknowledgement measures, `v` the sender before it and `u` the sender after it: of the index that is timed, if it is newly
+-- acknowledged. RTO.Max at most.
 abbrev pub trip_told : (now : ℕ) → (v u : SenderView) → Option Timed → Option ℕ
-trip_told now v u o = option_and_then (λ t. when (nat_lt v.cum t.index && (u.covered t.index && not (was_given_up v t.index))) (min (now - t.moment) LONGEST_WAIT)) o
+trip_told now v u o = option_and_then
+    (λ t. when (nat_lt v.cum t.index && (u.covered t.index && not (was_given_up v t.index))) (min (now - t.moment) LONGEST_WAIT)) o
 
 -- SRTT and RTTVAR after it
 abbrev pub with_trip : Option ℕ → Option Smoothed → Option Smoothed

@@ -9,7 +9,8 @@ use Rattle.sctp_model.specs.receiver.SackMade.{TakeLeaves}
 use Rattle.sctp_model.specs.receiver.ResetTaken.{told_of}
 use Rattle.sctp_model.specs.sender.Words.{count_up}
 use Rattle.sctp_model.specs.sender.Resetting.{resetting}
-use Rattle.sctp_model.specs.end.EndView.{Draw, AbortedHere, Stage, Established, ShutdownPending, ShutdownSent, ShutdownReceived, ShutdownAckSent, Phase, Idle, Listening, Calling, Echoing, Open, Over, EndView}
+use Rattle.sctp_model.specs.end.EndView.{Draw, AbortedHere, Stage, Established, ShutdownPending, ShutdownSent, ShutdownReceived, ShutdownAckSent, Phase}
+use Rattle.sctp_model.specs.end.EndView.{Idle, Listening, Calling, Echoing, Open, Over, EndView}
 use Rattle.sctp_model.specs.end.Clock.{turned, closed}
 use Rattle.sctp_model.specs.end.Closing.{with_due, rested, hears}
 use Rattle.sctp_model.specs.end.Reports.{item, USER_ABORT}
@@ -22,7 +23,7 @@ use Rattle.sctp_model.specs.end.Moments.{after_abandoning}
 pub data ConnectAnswer : Type 0 where
   Called NotIdle : ConnectAnswer
 
--- only an end that nothing happened to yet may call
+-- only an endpoint that nothing has happened to yet may call
 abbrev pub connect_answer : Phase → ConnectAnswer
 connect_answer Idle = Called
 connect_answer Listening = NotIdle
@@ -37,7 +38,7 @@ called e d = with_due (record (turned (Calling d) e).due { init = true }) (turne
 
 -- ---- send (11.1.5)
 
--- an end that isn't established comes before every other reason
+-- that the endpoint isn't established is looked at before every other reason
 pub data SendAnswer : Type 0 where
   Ticket : ℕ → SendAnswer
   Refused : Refusal → SendAnswer
@@ -56,7 +57,7 @@ abbrev pub answer_for : EndView → Option Refusal → SendAnswer
 answer_for e None = Ticket (suc e.sender.tickets)
 answer_for e (Some r) = Refused r
 
--- What is answered to send (11.1.5): an end that is not established first, then the refusals in their order.
+-- What is answered to send (11.1.5): that the endpoint isn't established first, then the refusals in their order.
 abbrev pub send_answer : EndView → Call → SendAnswer
 send_answer e c =
     if hears is_established e.phase then answer_for e (refusal e.sender c.lane.stream c.bytes) else NotOpen
@@ -73,11 +74,11 @@ send_leaves NotOpen e c = e
 abbrev pub is_open : Phase → Bool
 is_open h = hears (λ g. true) h
 
--- what the sender of an end answers to abandon (RFC 3758, 3.5), whether it is open or closed
+-- what the sender of an endpoint answers to abandon (RFC 3758, 3.5), whether it is open or closed
 abbrev pub abandons : EndView → ℕ → AbandonAnswer
 abandons e ticket = abandon_answer e.sender ticket
 
--- a closed end sends nothing more, so nothing is due there
+-- a closed endpoint sends nothing more, so nothing is due there
 abbrev pub abandoned_at : EndView → ℕ → EndView
 abandoned_at e ticket =
     if is_open e.phase then after_abandoning e (abandon_after e.sender ticket) else record e { sender = abandon_after e.sender ticket }
@@ -110,7 +111,7 @@ abbrev pub shut_in : Phase → EndView → EndView
 shut_in (Open t Established) e = rested (turned (Open t ShutdownPending) e)
 shut_in h e = e
 
--- the end after shutdown
+-- the endpoint after shutdown
 abbrev pub shut : EndView → EndView
 shut e = shut_in e.phase e
 
@@ -168,11 +169,11 @@ abort_answer_to e reason None = NoPeer
 abort_answer_to e reason (Some tag) =
     if nat_le (size_of_packet (abort_packet e tag reason).chunks) e.configuration.limit then Aborts (abort_packet e tag reason) else TooLong
 
--- what is answered to abort at this end
+-- what is answered to abort at this endpoint
 abbrev pub abort_answer : EndView → List ℕ → AbortAnswer
 abort_answer e reason = abort_answer_to e reason (peer_tag e.phase)
 
--- the end after abort
+-- the endpoint after abort
 abbrev pub abort_leaves : AbortAnswer → EndView → EndView
 abort_leaves (Aborts p) e = closed AbortedHere e
 abort_leaves NoPeer e = e

@@ -1,5 +1,5 @@
--- The end of a packet: a fragment that would be retransmitted for its third miss indication, and was retransmitted as often as its message's limit allows, isn't: its message is
--- abandoned (RFC 9260, 7.2.4; RFC 7496, 3.1). In the middle of a packet none is abandoned, so that no chunk of it assigns a TSN.
+-- The end of a packet: a fragment that would be retransmitted for its third miss indication, and was retransmitted as often as its message's limit allows,
+-- isn't: its message is abandoned (RFC 9260, 7.2.4; RFC 7496, 3.1). In the middle of a packet none is abandoned, so that no chunk of it assigns a TSN.
 use Rattle.std.specs.Prelude.{ℕ, nat_le, nat_lt, true, ◌&&◌, if◌then◌else◌, Option, None, Some}
 use Rattle.sctp_model.specs.sender.Abandoning.{worn}
 use Rattle.sctp_model.specs.end.Pacing.{Pace}

@@ -30,7 +30,7 @@ pub record IsWholeJust (f : Format) (p : Plan) : Type 0 where
 abbrev pub WholeLaw : Format → Type 0
 WholeLaw f = (p : Plan) → Orderly f p → IsWholeJust f p
 
--- The chunk at this index was taken: it is kept, or its message was handed over and no chunk of it is kept any more.
+-- The chunk at this index was taken: it is kept, or its message was delivered and no chunk of it is kept any more.
 pub record IsTaken (f : Format) (p : Plan) (kept : List Piece) (i : ℕ) : Type 0 where
   pub chunk : Piece
   pub index : chunk.index ≡ i
@@ -48,8 +48,8 @@ MakesGo f x y =
     ((s : Skip) × Has x.skips s × (s.lane ≡ y.lane) × IsNumberBelow (suc s.number) y.number)
     ⊎ ((is_numbered f y.lane.kind ≡ false) × (y.index ≤ x.point))
 
--- The law of skipping: what a FORWARD makes go, of what is kept, is of an abandoned message or is among all chunks of a whole one.
--- So nothing else is lost if whole messages are handed over first (RFC 3758, 3.6).
+-- The law of skipping: what a FORWARD makes go, of what is kept, is of an abandoned message or is among all chunks of a whole one. So nothing else is lost
+-- if whole messages are delivered first (RFC 3758, 3.6).
 abbrev pub SkipLaw : Format → Type 0
 SkipLaw f =
     (v : SenderView) (c p : ℕ) (x : Forward) (kept : List Piece) →

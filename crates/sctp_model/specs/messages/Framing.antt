@@ -12,7 +12,7 @@ lane_kind false = Ordered
 
 -- ---- a fragment's chunk
 
--- the chunk of a piece: a DATA or an I-DATA
+-- the chunk of user data: a DATA or an I-DATA
 abbrev pub data_chunk : Format → PieceMeaning → ChunkMeaning
 data_chunk Plain p = Data p
 data_chunk Interleaved p = IData p
@@ -22,7 +22,7 @@ abbrev pub header_of : Format → ℕ
 header_of Plain = 16
 header_of Interleaved = 20
 
--- What stands on the wire for a message's number: an SSN, which is 0 without order, or a MID.
+-- The wire value of a message's number: an SSN, which is 0 without order, or a MID.
 abbrev pub wire_number : Format → Kind → (number : ℕ) → ℕ
 wire_number Plain Ordered n = ssn n
 wire_number Plain Unordered n = 0
@@ -73,7 +73,7 @@ abbrev pub is_skipped : Option ℕ → (skip : ℕ) → Bool
 is_skipped None skip = false
 is_skipped (Some n) skip = nat_lt n skip
 
--- Whether an unordered chunk is left behind, and goes if its message isn't whole: under DATA by its index, under I-DATA by its number.
+-- Whether a FORWARD passes an unordered chunk, which goes if its message isn't whole: under DATA by its index, under I-DATA by its number.
 abbrev pub lets_go : Format → (index : ℕ) → (number : Option ℕ) → (jump skip : ℕ) → Bool
 lets_go Plain index number jump skip = nat_le index jump
 lets_go Interleaved index number jump skip = is_skipped number skip

@@ -3,7 +3,7 @@ use Rattle.std.specs.Prelude.{ℕ, ◌-◌, ◌^◌}
 
 -- ---- configuration: streams each way; sizes in bytes
 
--- streams each way, 1 to so many
+-- streams each way, 1 to this many
 abbrev pub STREAM_LIMIT : ℕ
 STREAM_LIMIT = 1_024
 
@@ -27,7 +27,7 @@ GREATEST_FRAGMENT = 1_400
 abbrev pub FRAGMENT_OVERHEAD : ℕ
 FRAGMENT_OVERHEAD = 32
 
--- the room of a receiver
+-- the buffer of a receiver
 abbrev pub LEAST_BUFFER : ℕ
 LEAST_BUFFER = 65_536
 
@@ -53,7 +53,7 @@ WINDOW = 32_767
 abbrev pub TSN_LIMIT : ℕ
 TSN_LIMIT = 2 ^ 63 - 1
 
--- tickets are 1 to so many
+-- tickets are 1 to this
 abbrev pub TICKET_LIMIT : ℕ
 TICKET_LIMIT = 2 ^ 64 - 1
 
@@ -67,7 +67,7 @@ RESETS_AT_ONCE = 256
 
 -- ---- the network
 
--- A packet comes before so many TSNs more have been assigned since it was built: half their space, less a window on each side of what it says, so that
+-- A packet arrives before this many more TSNs have been assigned since it was built: half their space, less a window on each side of what it says, so that
 -- its TSNs are read as they were meant (RFC 9260, 2.6 and 6.1).
 abbrev pub AGE_LIMIT : ℕ
 AGE_LIMIT = 2 ^ 31 - 65_536
@@ -78,7 +78,7 @@ AGE_LIMIT = 2 ^ 31 - 65_536
 abbrev pub BLOCK_LIMIT : ℕ
 BLOCK_LIMIT = 64
 
--- and so many duplicates
+-- and duplicates
 abbrev pub DUPLICATE_LIMIT : ℕ
 DUPLICATE_LIMIT = 16
 
@@ -88,7 +88,7 @@ RUN_LIMIT = 16_383
 
 -- ---- time, in milliseconds
 
--- the last moment that there is
+-- the last time that there is
 abbrev pub LAST_MOMENT : ℕ
 LAST_MOMENT = 2 ^ 64 - 1
 
@@ -100,7 +100,7 @@ FIRST_WAIT = 1_000
 abbrev pub LONGEST_WAIT : ℕ
 LONGEST_WAIT = 60_000
 
--- how long a SACK may wait for another packet, if an end delays its SACKs (at most 500 by RFC 9260, 6.2, which recommends this: SACK.Delay of 16)
+-- how long a SACK may wait for another packet, if an endpoint delays its SACKs (at most 500 by RFC 9260, 6.2, which recommends this: SACK.Delay of 16)
 abbrev pub SACK_DELAY : ℕ
 SACK_DELAY = 200
 

@@ -30,7 +30,7 @@ pub record IsPassedWhole (f : Format) (r : ReceiverView) (s from m : ℕ) (h : H
   pub chunks : AreMessage f r s number (head ∷ rest)
   pub made : message_of f head rest ≡ h
 
--- DUE ON A STREAM, from a number on: m is the smallest one still to come, and handed over are all whole messages before it, in rising number.
+-- DUE ON A STREAM, from a number on: m is the smallest one still to come, and all whole messages before it are delivered, in rising number.
 pub record IsDueInWords (f : Format) (r : ReceiverView) (s from : ℕ) (ms : List Handed) (m : ℕ) : Type 0 where
   pub waits : IsSmallest (IsToCome f r s from) m
   pub in_order : IsRising ms

@@ -13,7 +13,7 @@ use Rattle.sctp_model.specs.receiver.Receiving.{GivesAll}
 
 -- What it answers to a FORWARD (RFC 3758, 3.6).
 pub data ForwardAnswer : Type 0 where
-  -- its TSN lies behind
+  -- its TSN is old
   OutOfDate : ForwardAnswer
   -- its TSN is too far ahead, or it names a stream that isn't there
   Bad : ForwardAnswer
@@ -35,12 +35,12 @@ forward_answer r c x = first_of
 
 -- ---- what it skips
 
--- before those behind it, the entry of a lane, if its number counts there
+-- the entry of a lane, if its number counts there, before the others
 abbrev pub with_skip : ReceiverView → Lane → Option ℕ → List Skip → List Skip
 with_skip r l None others = others
 with_skip r l (Some n) others = if is_late r l (Some n) then others else record { lane = l; number = n } ∷ others
 
--- The entries in counts, each read as its chunks would be before the FORWARD came. One without a number, or with one too late, is passed over.
+-- The entries in counts, each read as its chunks would be before the FORWARD arrived. One without a number, or with one too late, is passed over.
 abbrev pub skips_read : Format → ReceiverView → List SkipMeaning → List Skip
 skips_read f r [] = []
 skips_read f r (x ∷ xs) =
@@ -52,7 +52,7 @@ skips_read f r (x ∷ xs) =
 abbrev pub jumped : Format → ReceiverView → (c : ℕ) → ForwardMeaning → ReceiverView
 jumped f r c x = record r { jump = max r.jump (index_at r c x.cumulative); skip = skipped r.skip (skips_read f r x.skips) }
 
--- An ordered chunk stays, to be handed over or to go with its number; an unordered one goes by its index under DATA, and by its number under I-DATA.
+-- An ordered chunk stays, to be delivered or to go with its number; an unordered one goes by its index under DATA, and by its number under I-DATA.
 abbrev pub stays_by : Kind → Format → ReceiverView → Piece → Bool
 stays_by Ordered f r x = true
 stays_by Unordered f r x = not (lets_go f x.index x.number r.jump (r.skip x.lane))
@@ -65,7 +65,7 @@ let_go f r = record r { kept = filter (λ (x : Piece). stays_by x.lane.kind f r 
 abbrev pub forwarded : Format → ReceiverView → (c : ℕ) → ForwardMeaning → ReceiverView
 forwarded f r c x = let_go f (jumped f r c x)
 
--- One that moves does that, and on every stream what is due then is handed over.
+-- One that moves does that, and on every stream what is due then is delivered.
 abbrev pub ForwardLeaves : Format → ReceiverView → (c : ℕ) → ForwardMeaning → ForwardAnswer → ReceiverView → Type 0
 ForwardLeaves f r c x OutOfDate t = t ≡ r
 ForwardLeaves f r c x Bad t = t ≡ r

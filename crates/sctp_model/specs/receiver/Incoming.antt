@@ -4,8 +4,8 @@ use Rattle.sctp_model.specs.messages.Format.{Lane}
 use Rattle.sctp_model.specs.wire.Typed.{Typed}
 use Rattle.sctp_model.specs.wire.Reconfig.{ResetResult, BadNumber}
 
--- For each lane the number that is 0 on the wire; how many requests were taken, and the result of the last one; the responses that wait for a packet; for each stream that was reset, until
--- that was reported to the user, how many messages had been delivered on it when the last request for it was performed.
+-- For each lane the number that is 0 on the wire; how many requests were taken, and the result of the last one; the responses that wait for a packet; for
+-- each stream that was reset, until that was reported to the user, how many messages had been delivered on it when the last request for it was performed.
 pub record Incoming : Type 0 where
   pub base : Lane → ℕ
   pub taken : ℕ

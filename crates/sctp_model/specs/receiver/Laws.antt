@@ -29,7 +29,7 @@ pub record IsWaiting (f : Format) (r : ReceiverView) (s : ℕ) : Type 0 where
   pub passed : r.skip (ordered_lane s) ≤ r.next s
   pub none : HasNoWhole f r.kept (ordered_lane s) (r.next s)
 
--- AT REST: nothing is to be handed over, neither in order nor without.
+-- AT REST: nothing is to be delivered, neither in order nor without.
 pub record IsIdle (f : Format) (r : ReceiverView) : Type 0 where
   pub ordered : (s : ℕ) → IsWaiting f r s
   pub unordered : (y : Piece) → y.lane.kind ≡ Unordered → HasNoWholeWith f r.kept y

@@ -11,7 +11,7 @@ use Rattle.sctp_model.specs.receiver.Receiving.{recorded, TakesPiece}
 
 -- What a receiver answers to a data chunk, in the order of the rows below (RFC 9260, 6.2).
 pub data PieceAnswer : Type 0 where
-  -- its TSN came before, or lies behind
+  -- its TSN was recorded before, or is old
   Duplicate : PieceAnswer
   -- its TSN is too far ahead to be recorded
   Ahead : PieceAnswer
@@ -35,7 +35,7 @@ abbrev pub is_held : List Piece → Piece → Bool
 is_held [] x = false
 is_held (y ∷ ys) x = are_one_fragment y x || is_held ys x
 
--- Under I-DATA a fragment may come again with another TSN; under DATA a fragment is its TSN.
+-- Under I-DATA a fragment may arrive again with another TSN; under DATA a fragment is its TSN.
 abbrev pub is_repeated : Format → List Piece → Piece → Bool
 is_repeated Plain kept x = false
 is_repeated Interleaved kept x = is_held kept x
@@ -46,7 +46,7 @@ is_passed f r x = (is_numbered f x.lane.kind && is_late r x.lane x.number) || is
 
 -- ---- THE TABLE OF ANSWERS
 
--- the TSN lies behind, or was recorded
+-- the TSN is old, or was recorded
 abbrev pub is_duplicate : Format → ReceiverView → (c : ℕ) → PieceMeaning → Bool
 is_duplicate f r c p = is_behind r c p.tsn || r.seen (piece_at f r c p).index
 
@@ -67,11 +67,11 @@ answer_to f r c p = first_of
 
 -- ---- WHAT EACH ANSWER LEAVES
 
--- a duplicate is told in the next SACK, if it is among the first of them (RFC 9260, 6.2)
+-- a duplicate is reported in the next SACK, if it is among the first of them (RFC 9260, 6.2)
 abbrev pub noted : ReceiverView → (wire : ℕ) → ReceiverView
 noted r wire = record r { duplicates = take DUPLICATE_LIMIT (r.duplicates ++ wire ∷ []) }
 
--- Of a chunk that isn't wanted the index alone is recorded; one that is taken is kept, and what is due then is handed over.
+-- Of a chunk that isn't wanted the index alone is recorded; one that is taken is kept, and what is due then is delivered.
 abbrev pub Leaves : Format → ReceiverView → Piece → (wire : ℕ) → PieceAnswer → ReceiverView → Type 0
 Leaves f r x wire Duplicate t = t ≡ noted r wire
 Leaves f r x wire Ahead t = t ≡ r
@@ -80,7 +80,7 @@ Leaves f r x wire Passed t = t ≡ recorded r x
 Leaves f r x wire NoRoom t = t ≡ r
 Leaves f r x wire Kept t = TakesPiece f r x t
 
--- A PIECE TAKEN: read at the cumulative index c, it is answered by the table, and the answer leaves t.
+-- A DATA CHUNK TAKEN: read at the cumulative index c, it is answered by the table, and the answer leaves t.
 pub record PieceTaken (f : Format) (r : ReceiverView) (p : PieceMeaning) (a : PieceAnswer) (t : ReceiverView) : Type 0 where
   pub c : ℕ
   pub cumulative : IsCumulative r c

@@ -16,7 +16,7 @@ use Rattle.sctp_model.specs.receiver.Top.{top}
 abbrev pub offset : ReceiverView → (c wire : ℕ) → ℕ
 offset r c = ahead 32 (tsn r.initial c)
 
--- so many indexes above c
+-- the index as far above c
 abbrev pub index_at : ReceiverView → (c wire : ℕ) → ℕ
 index_at r c wire = c + offset r c wire
 
@@ -48,7 +48,7 @@ abbrev pub lowest_in : ReceiverView → Lane → Kind → ℕ
 lowest_in r l Ordered = max (r.next l.stream) (r.skip l)
 lowest_in r l Unordered = r.skip l
 
--- A number comes too late below that, and so does a chunk that should have one and has none.
+-- A number below that is too late, and so is a chunk that should have one and has none.
 abbrev pub is_late : ReceiverView → Lane → Option ℕ → Bool
 is_late r l None = true
 is_late r l (Some n) = nat_lt n (lowest_in r l l.kind)

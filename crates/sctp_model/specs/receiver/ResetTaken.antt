@@ -1,5 +1,6 @@
 -- A request of the peer to reset its outgoing streams arrives: its result, and the receiver after it (RFC 6525, 5.2).
-use Rattle.std.specs.Prelude.{ℕ, suc, ◌-◌, ◌==◌, nat_le, max, if◌then◌else◌, Bool, true, false, not, ◌&&◌, ◌||◌, List, [], ◌∷◌, length, Option, None, Some, unwrap_or}
+use Rattle.std.specs.Prelude.{ℕ, suc, ◌-◌, ◌==◌, nat_le, max, if◌then◌else◌, Bool, true, false, not, ◌&&◌, ◌||◌, List, [], ◌∷◌, length, Option, None, Some}
+use Rattle.std.specs.Prelude.{unwrap_or}
 use Rattle.std.specs.List.{list_any}
 use Rattle.sctp_model.specs.numbers.Serial.{tsn}
 use Rattle.sctp_model.specs.wire.Typed.{Typed}
@@ -46,8 +47,8 @@ names r (x ∷ xs) s = lists (x ∷ xs) s
 
 -- ---- the result
 
--- THE TABLE OF RESULTS of a request in its turn: the first that holds; else it is performed. It waits for all chunks up to its last TSN: so no chunk that arrives later has a number from
--- before the reset (5.2.2).
+-- THE TABLE OF RESULTS of a request in its turn: the first that holds; else it is performed. It waits for all chunks up to its last TSN: so no chunk that
+-- arrives later has a number from before the reset (5.2.2).
 abbrev pub reset_answer : ReceiverView → (c : ℕ) → ResetMeaning → ResetResult
 reset_answer r c m = first_of
     ((list_any (nat_le r.streams) m.streams, WrongStream)

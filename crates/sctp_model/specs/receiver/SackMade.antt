@@ -21,7 +21,7 @@ pub record AreAllRuns (r : ReceiverView) (c : ℕ) (bs : List BlockMeaning) : Ty
 
 -- ---- THE SACK
 
--- its words, from the cumulative index and all runs: of these the lowest, as many as there is room for
+-- its words, from the cumulative index and all runs: of these the lowest, as many as a SACK may have
 abbrev pub sack_of : ReceiverView → (c : ℕ) → List BlockMeaning → SackMeaning
 sack_of r c runs = record {
   cumulative = tsn r.initial c;
@@ -38,7 +38,7 @@ pub record IsSack (r : ReceiverView) (s : SackMeaning) : Type 0 where
   pub all : AreAllRuns r c runs
   pub is : s ≡ sack_of r c runs
 
--- When it was sent, the duplicates that it told are forgotten.
+-- When it was sent, the duplicates that it reported are forgotten.
 abbrev pub sack_sent : ReceiverView → ReceiverView
 sack_sent r = record r { duplicates = [] }
 

@@ -19,6 +19,6 @@ abbrev pub largest_handed : Lane → List Handed → ℕ
 largest_handed l [] = 0
 largest_handed l (h ∷ hs) = max (number_on l h.lane h.number) (largest_handed l hs)
 
--- TOP of a stream, 0 if there is none: a chunk with a number is kept until its message is handed over or skipped, so these three have all that was recorded.
+-- TOP of a stream, 0 if there is none: a chunk with a number is kept until its message is delivered or skipped, so these three have all that was recorded.
 abbrev pub top : ReceiverView → (stream : ℕ) → ℕ
 top r s = max (r.skip (unordered_lane s) - 1) (max (largest_kept (unordered_lane s) r.kept) (largest_handed (unordered_lane s) (handed r s)))

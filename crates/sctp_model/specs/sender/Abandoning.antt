@@ -1,5 +1,7 @@
--- Messages that are abandoned (RFC 3758, 3.5; RFC 8260, 2.3.1): by name, past their lifetime, or retransmitted as often as they may be (RFC 7496, 3.1); and the data timer (RFC 9260, 6.3.3).
-use Rattle.std.specs.Prelude.{ℕ, ◌==◌, nat_lt, nat_le, if◌then◌else◌, Bool, true, false, not, ◌&&◌, ◌||◌, List, [], ◌∷◌, Option, fold, find, unwrap_or, option_map, option_and_then, length}
+-- Messages that are abandoned (RFC 3758, 3.5; RFC 8260, 2.3.1): by name, past their lifetime, or retransmitted as often as they may be (RFC 7496, 3.1); and
+-- the data timer (RFC 9260, 6.3.3).
+use Rattle.std.specs.Prelude.{ℕ, ◌==◌, nat_lt, nat_le, if◌then◌else◌, Bool, true, false, not, ◌&&◌, ◌||◌, List, [], ◌∷◌, Option, fold, find, unwrap_or}
+use Rattle.std.specs.Prelude.{option_map, option_and_then, length}
 use Rattle.std.specs.Option.{option_map_or}
 use Rattle.std.specs.List.{list_any}
 use Rattle.sctp_model.specs.numbers.Lists.{at}
@@ -72,7 +74,8 @@ gives_up Reliable = false
 
 -- of a message with a number: abandoned already; else acknowledged; else not to be abandoned; and else it is abandoned now
 abbrev pub numbered_answer : SenderView → Name → AbandonAnswer
-numbered_answer v n = unwrap_or (first_there (when (is_abandoned v n) Abandoned ∷ when (is_covered v n) Acknowledged ∷ when (not v.partial) Reliable ∷ [])) Abandoned
+numbered_answer v n = unwrap_or
+    (first_there (when (is_abandoned v n) Abandoned ∷ when (is_covered v n) Acknowledged ∷ when (not v.partial) Reliable ∷ [])) Abandoned
 
 -- What `abandon` answers: for a message with a number as above; a ticket that was given has a message without a number; no other has one.
 abbrev pub abandon_answer : SenderView → (ticket : ℕ) → AbandonAnswer
@@ -110,7 +113,7 @@ may_abandon v t = option_map_or (may_abandon_named v) (name_of v t) (waits t v.q
 
 -- ---- what is past its time
 
--- the moment until which it is worth sending is now or was before
+-- the time until which it is worth sending is now or was before
 abbrev pub is_past : (now : ℕ) → Message → Bool
 is_past now m = some_passes (λ until. nat_le until now) m.until
 
@@ -147,7 +150,8 @@ expired v now = fold (expire_one now) v (count_up 1 v.tickets)
 abbrev pub is_used_up : (repeats : ℕ) → Message → Bool
 is_used_up repeats m = some_passes (λ limit. nat_le limit repeats) m.limit
 
--- The fragment at an index was retransmitted as often as its message's limit allows. If messages may not be abandoned, no limit counts: each is retransmitted until it is acknowledged.
+-- The fragment at an index was retransmitted as often as its message's limit allows. If messages may not be abandoned, no limit counts: each is
+-- retransmitted until it is acknowledged.
 abbrev pub is_worn : SenderView → ℕ → Entry → Bool
 is_worn v i e = v.partial && some_passes (is_used_up (v.repeats i)) (entry_message v.plan e)
 

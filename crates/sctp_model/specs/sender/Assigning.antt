@@ -8,7 +8,7 @@ use Rattle.sctp_model.specs.sender.Entries.{continued}
 
 -- ---- what grows
 
--- a message has taken the next number of its lane, and so many of its fragments the next indexes
+-- a message has taken the next number of its lane, and this many of its fragments the next indexes
 abbrev pub with_message : Plan → Queued → (count : ℕ) → Plan
 with_message p q count = record {
   messages = at_lane p.messages q.lane (p.messages q.lane ++ q.message ∷ []);
@@ -40,7 +40,7 @@ is_on s q = q.lane.stream == s
 abbrev pub first_on : (stream : ℕ) → List Queued → Option Queued
 first_on s qs = find (is_on s) qs
 
--- the stream behind this one, upward and cyclic
+-- the stream after this one, upward and cyclic
 abbrev pub stream_after : SenderView → ℕ → ℕ
 stream_after v s = suc s % v.streams
 

@@ -1,5 +1,6 @@
 -- What a sender's view says of each entry of its plan: whose it is, what it carries, how far it is; and which messages are partly sent.
-use Rattle.std.specs.Prelude.{ℕ, suc, ◌+◌, ◌-◌, ◌==◌, nat_lt, if◌then◌else◌, Bool, false, not, ◌&&◌, ◌||◌, List, [], ◌∷◌, length, slice_index_or, Option, None, Some, option_and_then}
+use Rattle.std.specs.Prelude.{ℕ, suc, ◌+◌, ◌-◌, ◌==◌, nat_lt, if◌then◌else◌, Bool, false, not, ◌&&◌, ◌||◌, List, [], ◌∷◌, length, slice_index_or, Option}
+use Rattle.std.specs.Prelude.{None, Some, option_and_then}
 use Rattle.std.specs.Option.{option_or, option_map_or}
 use Rattle.sctp_model.specs.messages.Format.{Lane, same_lane}
 use Rattle.sctp_model.specs.messages.Plan.{Message, Entry, Part, End, Plan, entry_at, message_at}
@@ -49,7 +50,7 @@ entry_bytes p e = bytes_in e (entry_message p e)
 
 -- ---- over the whole plan
 
--- one passes of these entries, which stand from index i on
+-- one passes of these entries, which are at the indexes from i on
 abbrev pub any_from : (ℕ → Entry → Bool) → ℕ → List Entry → Bool
 any_from test i [] = false
 any_from test i (e ∷ es) = test i e || any_from test (suc i) es
@@ -58,16 +59,16 @@ any_from test i (e ∷ es) = test i e || any_from test (suc i) es
 abbrev pub some_entry : SenderView → (ℕ → Entry → Bool) → Bool
 some_entry v test = any_from test 1 v.plan.entries
 
--- the sum over these entries, which stand from index i on
+-- the sum over these entries, which are at the indexes from i on
 abbrev pub sum_from : (ℕ → Entry → ℕ) → ℕ → List Entry → ℕ
 sum_from summand i [] = 0
 sum_from summand i (e ∷ es) = summand i e + sum_from summand (suc i) es
 
--- an entry stands at the index, and passes
+-- an entry is at the index, and passes
 abbrev pub passes_at : Plan → (ℕ → Entry → Bool) → ℕ → Bool
 passes_at p test i = some_passes (test i) (entry_at p i)
 
--- ---- how far it came
+-- ---- how far it is
 
 -- its message was abandoned
 abbrev pub is_of_abandoned : SenderView → Entry → Bool
@@ -104,13 +105,13 @@ abbrev pub latest : ℕ → List Entry → Option Entry
 latest s [] = None
 latest s (e ∷ es) = option_or (latest s es) (when ((entry_lane e).stream == s) e)
 
--- the fragment behind this entry in its message; behind the last one, and behind an end mark, there is none
+-- the fragment after this entry in its message; after the last one, and after an end mark, there is none
 abbrev pub next_part : Plan → Entry → Option Entry
 next_part p (Part l n k) = when (nat_lt (suc k) (length (fragments_in (message_at p l n)))) (Part l n (suc k))
 next_part p (End l n) = None
 
--- The fragment that the message in part of a stream takes next, if it has such a message. It has one at most: a stream's messages go one after
--- the other (RFC 8260, 2.2.2).
+-- The fragment that a stream's partly sent message takes next, if it has such a message. It has one at most: a stream's messages go one after the other
+-- (RFC 8260, 2.2.2).
 abbrev pub continued : Plan → ℕ → Option Entry
 continued p s = option_and_then (next_part p) (latest s p.entries)
 

@@ -1,5 +1,6 @@
 -- What goes into a packet: one wish after the other, as long as space, flow and window allow (RFC 9260, 6.1 and 6.3.3).
-use Rattle.std.specs.Prelude.{◌≡◌, ℕ, zero, suc, ◌+◌, ◌-◌, ◌==◌, ◌≤◌, nat_le, Bool, true, false, ◌&&◌, ◌||◌, if◌then◌else◌, List, [], ◌∷◌, length, drop, filter_map, Option, Some, unwrap_or, option_map, option_and_then}
+use Rattle.std.specs.Prelude.{◌≡◌, ℕ, zero, suc, ◌+◌, ◌-◌, ◌==◌, ◌≤◌, nat_le, Bool, true, false, ◌&&◌, ◌||◌, if◌then◌else◌, List, [], ◌∷◌, length, drop}
+use Rattle.std.specs.Prelude.{filter_map, Option, Some, unwrap_or, option_map, option_and_then}
 use Rattle.std.specs.Option.{option_map_or}
 use Rattle.sctp_model.specs.numbers.Limits.{WINDOW}
 use Rattle.sctp_model.specs.numbers.Lists.{at}
@@ -51,19 +52,19 @@ bytes_of_wish w = entry_bytes w.view.plan (wished w)
 abbrev pub chunk_of : Format → Wish → ChunkMeaning
 chunk_of f w = data_chunk f (piece_said f w.view.initial w.view.resets.base w.index (wished w) (entry_message w.view.plan (wished w)))
 
--- how much room its chunk takes in a packet, padded (RFC 9260, 3.2)
+-- how much space its chunk takes in a packet, padded (RFC 9260, 3.2)
 abbrev pub room_of : Format → Wish → ℕ
 room_of f w = size_of_chunk (chunk_of f w)
 
 -- ---- whether it may go
 
--- a first sending needs that nothing is in flight, or that the peer's window has room for its data, too (RFC 9260, 6.1, rule A); a repeat doesn't
+-- a first sending needs that nothing is in flight, or that the peer's window has space for its data, too (RFC 9260, 6.1, rule A); a repeat doesn't
 abbrev pub is_let_flow : Wish → Bool
 is_let_flow w =
     w.view.sent w.index
     || ((in_flight w.view == 0) || nat_le (in_flight w.view + length (bytes_of_wish w)) w.view.rwnd)
 
--- It fits into the room that is left, may flow, and leaves no more outstanding than the window holds.
+-- It fits into the space that is left, may flow, and leaves no more outstanding than the window holds.
 abbrev pub may_go : Format → (room : ℕ) → Wish → Bool
 may_go f room w = nat_le (room_of f w) room && (is_let_flow w && nat_le (outstanding w.view) WINDOW)
 
@@ -85,7 +86,7 @@ gone w = with_sent w.view w.index
 
 -- ---- FILL
 
--- Each goes after those before it, into the room that they leave; u is the view after the last of them.
+-- Each goes after those before it, into the space that they leave; u is the view after the last of them.
 abbrev pub Follows : Format → SenderView → (room : ℕ) → List Wish → (u : SenderView) → Type 0
 Follows f v room [] u = u ≡ v
 Follows f v room (w ∷ ws) u = (goes f room v ≡ Some w) × Follows f (gone w) (room - room_of f w) ws u
@@ -110,12 +111,12 @@ no_more v = record { wishes = []; view = v }
 abbrev pub before_these : Wish → Fill → Fill
 before_these w x = record { wishes = w ∷ x.wishes; view = x.view }
 
--- at most so many go
+-- at most this many go
 abbrev pub fill_at_most : (many : ℕ) → Format → (room : ℕ) → SenderView → Fill
 fill_at_most zero f room v = no_more v
 fill_at_most (suc many) f room v = option_map_or (λ w. before_these w (fill_at_most many f (room - room_of f w) (gone w))) (goes f room v) (no_more v)
 
--- Each chunk takes room, so no more go than there is room.
+-- Each chunk takes space, so no more go than there are bytes of space.
 abbrev pub fill : Format → (room : ℕ) → SenderView → Fill
 fill f room v = fill_at_most room f room v
 
@@ -126,7 +127,7 @@ abbrev pub is_first : Entry → Bool
 is_first (Part l n k) = k == 0
 is_first (End l n) = false
 
--- the ticket of a message, told by its first fragment
+-- the ticket of a message, reported with its first fragment
 abbrev pub begun_ticket : Plan → Entry → Option ℕ
 begun_ticket p e = option_and_then (λ m. when (is_first e) m.ticket) (entry_message p e)
 

@@ -7,8 +7,8 @@ pub data Sending : Type 0 where
   -- it does; it takes none, since its reset was asked for; it takes none, since the peer refused that
   Sends Resets Refuses : Sending
 
--- An outstanding request: the number of its first sending, which it doesn't have any more if it was in progress (laws name the request by it; no definition reads it); the last index
--- assigned then; its streams.
+-- An outstanding request: the number of its first sending, which it doesn't have any more if it was in progress (laws name the request by it; no definition
+-- reads it); the last index assigned then; its streams.
 pub record Request : Type 0 where
   pub first : ℕ
   pub last : ℕ

@@ -11,7 +11,7 @@ use Rattle.sctp_model.specs.sender.Entries.{sum_below, continued, fragments_from
 
 -- ---- fragments
 
--- The fragment with this number, counted from 0: the bytes behind those before it, as many as the size says, or what is left.
+-- The fragment with this number, counted from 0: the bytes after those of the fragments before it, as many as the size says, or what is left.
 abbrev pub fragment_of : (size : ℕ) → (bytes : List ℕ) → (number : ℕ) → List ℕ
 fragment_of size bytes k = take size (drop (k * size) bytes)
 
@@ -21,7 +21,7 @@ cut size bytes = map (fragment_of size bytes) (count_up 0 (div_ceil (length byte
 
 -- ---- TSNs that are promised
 
--- A message that has so many fragments without a TSN may take these and, given up half-way, one for its end mark.
+-- A message with this many fragments without a TSN may take one TSN for each and, given up half-way, one for its end mark.
 abbrev pub owed_for : ℕ → ℕ
 owed_for fragments = fragments + min 1 fragments
 
@@ -65,7 +65,7 @@ abbrev pub new_message : SenderView → (payload : ℕ) → (bytes : List ℕ) �
 new_message v payload bytes until limit =
     record { ticket = suc v.tickets; payload = payload; fragments = cut v.fragment bytes; until = until; limit = limit }
 
--- The view in which it waits behind all others.
+-- The view in which it waits after all others.
 abbrev pub queued : SenderView → Lane → (payload : ℕ) → (bytes : List ℕ) → (until limit : Option ℕ) → SenderView
 queued v lane payload bytes until limit = record v {
   queue = v.queue ++ record { lane = lane; message = new_message v payload bytes until limit } ∷ [];

@@ -9,8 +9,8 @@ use Rattle.sctp_model.specs.sender.Filling.{Wish, next_wish, may_go, gone}
 use Rattle.sctp_model.specs.sender.SackTaken.{sack_fault, sack_taken, shutdown_fault, shutdown_taken}
 use Rattle.sctp_model.specs.sender.Abandoning.{abandon_after, marking}
 
--- One step each: a message is queued, a wish goes into a packet, a SACK or a SHUTDOWN is taken, a ticket is abandoned; indexes are marked for retransmission, since the data timer
--- expired or they were missed; and what it knows of resets may be anything.
+-- One step each: a message is queued, a wish goes into a packet, a SACK or a SHUTDOWN is taken, a ticket is abandoned; indexes are marked for
+-- retransmission, since the data timer expired or they were missed; and what it knows of resets may be anything.
 pub data IsReached (f : Format) : SenderView → Type 0 where
   Begins : (initial streams fragment rwnd : ℕ) (partial : Bool) → 0 < fragment → IsReached f (fresh_sender initial streams fragment rwnd partial)
   Queues : (v : SenderView) (lane : Lane) (payload : ℕ) (bytes : List ℕ) (until limit : Option ℕ) → IsReached f v → refusal v lane.stream bytes ≡ None

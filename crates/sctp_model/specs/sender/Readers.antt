@@ -13,7 +13,7 @@ abbrev pub abandoned_run : SenderView → List Entry → ℕ
 abandoned_run v [] = 0
 abandoned_run v (e ∷ es) = if is_of_abandoned v e then suc (abandoned_run v es) else 0
 
--- The point: CUM, and so many indexes behind it as are all of abandoned messages (RFC 3758, 3.5).
+-- The point: CUM, and as many indexes after it as are all of abandoned messages (RFC 3758, 3.5).
 abbrev pub point : SenderView → ℕ
 point v = v.cum + abandoned_run v (drop v.cum v.plan.entries)
 

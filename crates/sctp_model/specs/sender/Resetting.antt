@@ -1,4 +1,5 @@
--- A sender resets its outgoing streams: once all that was sent on them is acknowledged it asks its peer, and once the peer has performed that, their numbers begin anew (RFC 6525, 5.1).
+-- A sender resets its outgoing streams: once all that was sent on them is acknowledged it asks its peer, and once the peer has performed that, their
+-- numbers begin anew (RFC 6525, 5.1).
 use Rattle.std.specs.Prelude.{ℕ, suc, ◌==◌, min, nat_lt, if◌then◌else◌, Bool, not, ◌&&◌, List, length, filter, drop, take, Option, None, Some, is_some}
 use Rattle.std.specs.List.{list_any}
 use Rattle.sctp_model.specs.numbers.Limits.{STREAM_LIMIT, REQUEST_LIMIT, RESETS_AT_ONCE}
@@ -50,7 +51,8 @@ may_ask v = not (is_some v.resets.pending) && (has_stream (ready v) && nat_lt v.
 
 -- The request is made: the peer performs it once all that is assigned by now has arrived (4.1).
 abbrev pub asked : SenderView → SenderView
-asked v = with_resets (record v.resets { made = suc v.resets.made; pending = Some (record { first = suc v.resets.made; last = length v.plan.entries; streams = ready v }) }) v
+asked v = with_resets
+    (record v.resets { made = suc v.resets.made; pending = Some (record { first = suc v.resets.made; last = length v.plan.entries; streams = ready v }) }) v
 
 -- what it says, each time that it is sent
 abbrev pub request_said : SenderView → Request → ResetMeaning
@@ -74,7 +76,8 @@ reset_done v q = with_resets (record v.resets { base = rebased v q; sending = se
 abbrev pub reset_refused : SenderView → Request → SenderView
 reset_refused v q = with_resets (record v.resets { sending = set_to Refuses q v.resets.sending; pending = None }) v
 
--- It is in progress: it is retried with the next sequence number, if there is one, since a request with a number that was taken may always have the same response (5.2.1 and 5.2.7).
+-- It is in progress: it is retried with the next sequence number, if there is one, since a request with a number that was taken may always have the same
+-- response (5.2.1 and 5.2.7).
 abbrev pub asked_again : SenderView → SenderView
 asked_again v = with_resets (record v.resets { made = if nat_lt v.resets.made REQUEST_LIMIT then suc v.resets.made else v.resets.made }) v
 

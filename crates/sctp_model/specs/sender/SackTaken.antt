@@ -13,11 +13,11 @@ pub data SackFault : Type 0 where
 
 -- ---- its numbers, as indexes
 
--- a cumulative TSN is older than CUM if it comes before its TSN
+-- a cumulative TSN is older than CUM if it is BEFORE the TSN of CUM
 abbrev pub is_stale : SenderView → (cumulative : ℕ) → Bool
 is_stale v wire = before 32 wire (tsn v.initial v.cum)
 
--- else it stands for the index that lies as far ahead of CUM
+-- else its index is as far ahead of that of CUM
 abbrev pub index_of : SenderView → (cumulative : ℕ) → ℕ
 index_of v wire = v.cum + ahead 32 (tsn v.initial v.cum) wire
 
@@ -29,11 +29,11 @@ some_ends_past last c blocks = list_any (λ b. nat_lt last (c + b.end)) blocks
 abbrev pub is_beyond : SenderView → (c : ℕ) → List BlockMeaning → Bool
 is_beyond v c blocks = nat_lt (length v.plan.entries) c || some_ends_past (length v.plan.entries) c blocks
 
--- a block that doesn't begin behind this offset, or that ends before it begins
+-- a block that doesn't begin after this offset, or that ends before it begins
 abbrev pub is_bad_after : (offset : ℕ) → BlockMeaning → Bool
 is_bad_after offset b = nat_le b.start offset || nat_lt b.end b.start
 
--- one of the blocks is bad behind the one before it, the first one behind the cumulative index
+-- one of the blocks is bad after the one before it, the first one after the cumulative index
 abbrev pub some_is_bad : (offset : ℕ) → List BlockMeaning → Bool
 some_is_bad offset [] = false
 some_is_bad offset (b ∷ bs) = is_bad_after offset b || some_is_bad b.end bs
@@ -62,7 +62,7 @@ sack_fault v x = first_there (
 abbrev pub sack_taken : SenderView → SackMeaning → SenderView
 sack_taken v x = let c = index_of v x.cumulative in record (covered_by v c (sack_covers c x.blocks)) { rwnd = x.rwnd }
 
--- The view after it came: one with a fault changes nothing.
+-- The view after it arrived: one with a fault changes nothing.
 abbrev pub sack_after : SenderView → SackMeaning → SenderView
 sack_after v x = if is_some (sack_fault v x) then v else sack_taken v x
 
@@ -76,6 +76,6 @@ shutdown_fault v wire = first_there (when (is_stale v wire) Stale ∷ when (is_b
 abbrev pub shutdown_taken : SenderView → (cumulative : ℕ) → SenderView
 shutdown_taken v wire = covered_by v (index_of v wire) (λ i. nat_le i (index_of v wire) || v.covered i)
 
--- the view after it came
+-- the view after it arrived
 abbrev pub shutdown_after : SenderView → (cumulative : ℕ) → SenderView
 shutdown_after v wire = if is_some (shutdown_fault v wire) then v else shutdown_taken v wire

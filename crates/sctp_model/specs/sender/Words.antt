@@ -20,7 +20,7 @@ some_passes test (Some x) = test x
 
 -- ---- counting
 
--- so many numbers, upward from one on
+-- this many numbers, upward from one on
 abbrev pub count_up : (from many : ℕ) → List ℕ
 count_up i zero = []
 count_up i (suc n) = i ∷ count_up (suc i) n

@@ -1,8 +1,8 @@
 -- What chunks say, as plain numbers and lists (RFC 9260, 3.2 and 3.3; RFC 3758, 3.2; RFC 8260, 2).
 use Rattle.std.specs.Prelude.{ℕ, ◌+◌, ◌-◌, ◌*◌, ◌/◌, Bool, List, length}
 
--- A piece of user data with its place (RFC 9260, 3.3.1; RFC 8260, 2.1). The number is that of its message
--- in the stream (SSN or MID), the word what follows it (payload protocol identifier or FSN).
+-- A fragment of user data with its place (RFC 9260, 3.3.1; RFC 8260, 2.1). The number is that of its message in the stream (SSN or MID), the word what
+-- follows it (payload protocol identifier or FSN).
 pub record PieceMeaning : Type 0 where
   pub immediate : Bool
   pub unordered : Bool
@@ -19,14 +19,14 @@ pub record BlockMeaning : Type 0 where
   pub start : ℕ
   pub end : ℕ
 
--- What a receiver has seen: all up to the cumulative TSN, the blocks, and what came more than once (RFC 9260, 3.3.4).
+-- What a receiver has seen: all up to the cumulative TSN, the blocks, and what arrived more than once (RFC 9260, 3.3.4).
 pub record SackMeaning : Type 0 where
   pub cumulative : ℕ
   pub rwnd : ℕ
   pub blocks : List BlockMeaning
   pub duplicates : List ℕ
 
--- How an end offers to open an association, in INIT and in INIT ACK (RFC 9260, 3.3.2 and 3.3.3): its tag, its room in bytes, how many
+-- How an endpoint offers to open an association, in INIT and in INIT ACK (RFC 9260, 3.3.2 and 3.3.3): its tag, its receiver window in bytes, how many
 -- streams it sends on and how many it takes, its first TSN, and the bytes of its list of parameters.
 pub record InitMeaning : Type 0 where
   pub tag : ℕ
@@ -47,8 +47,7 @@ pub record ForwardMeaning : Type 0 where
   pub cumulative : ℕ
   pub skips : List SkipMeaning
 
--- A chunk. Parameters and causes are the bytes of their list; `reflected` is the flag T: the packet has the tag that came, not the
--- receiver's own.
+-- A chunk. Parameters and causes are the bytes of their list; `reflected` is the flag T: the packet has the tag that was received, not the receiver's own.
 pub data ChunkMeaning : Type 0 where
   -- user data, by SSN (RFC 9260, 3.3.1) and by MID (RFC 8260, 2.1)
   Data : (piece : PieceMeaning) → ChunkMeaning
@@ -68,7 +67,7 @@ pub data ChunkMeaning : Type 0 where
   ShutdownAck : ChunkMeaning
   -- what was wrong (3.3.10)
   Error : (causes : List ℕ) → ChunkMeaning
-  -- the listener's cookie comes back, and is accepted (3.3.11 and 3.3.12)
+  -- the listener's cookie is returned, and is accepted (3.3.11 and 3.3.12)
   CookieEcho : (cookie : List ℕ) → ChunkMeaning
   CookieAck : ChunkMeaning
   -- the answer to SHUTDOWN ACK (3.3.13)
@@ -101,7 +100,7 @@ kind_of (ForwardTsn f) = 192
 kind_of (IForwardTsn f) = 194
 kind_of (Unknown kind flags value) = kind
 
--- the length field: header and value in bytes, without the padding behind them (RFC 9260, 3.2)
+-- the length field: header and value in bytes, without the padding after them (RFC 9260, 3.2)
 abbrev pub chunk_length : ChunkMeaning → ℕ
 chunk_length (Data p) = 16 + length p.bytes
 chunk_length (Init i) = 20 + length i.parameters

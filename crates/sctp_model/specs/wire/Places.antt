@@ -14,18 +14,18 @@ abbrev pub never_follows : ChunkMeaning → Bool
 never_follows (CookieEcho cookie) = true
 never_follows m = stands_alone m
 
--- Of chunks with so many bytes of others before them, where the first begins that never follows another one.
+-- Of chunks with this many bytes of others before them, where the first begins that may never follow another one.
 abbrev pub misplaced_behind : (before : ℕ) → List ChunkMeaning → Option ℕ
 misplaced_behind before [] = None
 misplaced_behind before (m ∷ ms) = if never_follows m then Some before else misplaced_behind (before + size_of_chunk m) ms
 
--- Where the first misplaced chunk of a packet begins, in bytes from the first chunk: that one itself, where it stands alone and others
--- follow; else one that follows and never does.
+-- Where the first misplaced chunk of a packet begins, in bytes from the first chunk: that one itself, if it must be alone and others follow; else one that
+-- follows and never may.
 abbrev pub first_misplaced : List ChunkMeaning → Option ℕ
 first_misplaced [] = None
 first_misplaced (m ∷ []) = None
 first_misplaced (m ∷ next ∷ ms) = if stands_alone m then Some 0 else misplaced_behind (size_of_chunk m) (next ∷ ms)
 
--- Each chunk of a packet stands where it may.
+-- Each chunk of a packet is where it may be.
 abbrev pub ArePlaced : List ChunkMeaning → Type 0
 ArePlaced ms = first_misplaced ms ≡ None

@@ -1,5 +1,5 @@
--- RE-CONFIG: a chunk of parameters that request the reset of streams, and respond to that (RFC 6525, 3 and 4). It is read as a chunk of an unknown type, and an endpoint that hasn't agreed
--- on it treats it as one.
+-- RE-CONFIG: a chunk of parameters that request the reset of streams, and respond to that (RFC 6525, 3 and 4). It is read as a chunk of an unknown type,
+-- and an endpoint that hasn't agreed on it treats it as one.
 use Rattle.std.specs.Prelude.{ℕ, ◌+◌, ◌*◌, ◌==◌, nat_le, Bool, ◌&&◌, ◌||◌, List, [], ◌∷◌, ◌++◌, length, map, drop}
 use Rattle.sctp_model.specs.numbers.Lists.{joined}
 use Rattle.sctp_model.specs.numbers.Numbers.{u16_bytes, u32_bytes, u32_at}
@@ -76,7 +76,8 @@ is_other_request x =
 
 -- The result of a request (4.4).
 pub data ResetResult : Type 0 where
-  -- it was performed; it is denied; one of its streams doesn't exist; its sequence number isn't the next one; not all that it waits for has arrived, and it is to be retried
+  -- it was performed; it is denied; one of its streams doesn't exist; its sequence number isn't the next one; not all that it waits for has arrived, and it
+  -- is to be retried
   Performed Denied WrongStream BadNumber InProgress : ResetResult
 
 -- its code

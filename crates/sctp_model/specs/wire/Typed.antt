@@ -1,5 +1,6 @@
 -- Parameters and causes: lists of items that say their type and their length (RFC 9260, 3.2.1 and 3.3.10).
-use Rattle.std.specs.Prelude.{◌≡◌, ℕ, zero, suc, ◌+◌, ◌-◌, ◌<◌, ◌^◌, Bool, if◌then◌else◌, ◌==◌, ◌&&◌, ◌||◌, nat_le, List, [], ◌∷◌, ◌++◌, length, drop, replicate, slice_range, Option, Some, None, is_some, unwrap_or, option_map}
+use Rattle.std.specs.Prelude.{◌≡◌, ℕ, zero, suc, ◌+◌, ◌-◌, ◌<◌, ◌^◌, Bool, if◌then◌else◌, ◌==◌, ◌&&◌, ◌||◌, nat_le, List, [], ◌∷◌, ◌++◌, length, drop}
+use Rattle.std.specs.Prelude.{replicate, slice_range, Option, Some, None, is_some, unwrap_or, option_map}
 use Rattle.std.specs.List.{AllByRecursion}
 use Rattle.sctp_model.specs.wire.Chunk.{padded, padding_after}
 use Rattle.sctp_model.specs.numbers.Numbers.{u16_bytes, u16_at}
@@ -20,7 +21,7 @@ pub record IsTyped (item : Typed) : Type 0 where
   pub kind : item.kind < 2 ^ 16
   pub length : typed_length item < 2 ^ 16
 
--- type, length and value, one behind the other
+-- type, length and value, one after the other
 abbrev pub typed_bytes : Typed → List ℕ
 typed_bytes item = u16_bytes item.kind ++ (u16_bytes (typed_length item) ++ item.value)
 
@@ -35,11 +36,11 @@ pub data ReadsTyped : List ℕ → List Typed → Type 0 where
       → length padding ≡ padding_after (typed_length item) → ReadsTyped rest others
       → ReadsTyped (typed_bytes item ++ (padding ++ rest)) (item ∷ others)
 
--- zeros behind bytes, up to a multiple of 4
+-- zeros after bytes, up to a multiple of 4
 abbrev pub filled : List ℕ → List ℕ
 filled front = front ++ replicate (padding_after (length front)) 0
 
--- the bytes written for a list: zeros fill each item before another one, and none stand behind the last
+-- the bytes written for a list: zeros fill each item before another one, and there are none after the last
 abbrev pub written_typed : List Typed → List ℕ
 written_typed [] = []
 written_typed (item ∷ []) = typed_bytes item
@@ -56,7 +57,7 @@ pub record WritesTyped (bytes : List ℕ) (items : List Typed) : Type 0 where
 abbrev pub length_field : List ℕ → ℕ
 length_field bytes = u16_at (drop 2 bytes)
 
--- An item begins here: the length covers its header, and behind it nothing is left, or its padding at least.
+-- An item begins here: the length covers its header, and after it nothing is left, or its padding at least.
 unfoldable pub starts_typed : List ℕ → Bool
 starts_typed bytes =
     nat_le 4 (length_field bytes) && ((length bytes == length_field bytes) || nat_le (padded (length_field bytes)) (length bytes))
@@ -65,12 +66,13 @@ starts_typed bytes =
 abbrev pub typed_at : List ℕ → Typed
 typed_at bytes = record { kind = u16_at bytes; value = slice_range bytes 4 (length_field bytes) }
 
--- The items; so many bytes are still inside the item before, or its padding. At each byte that isn't, one begins.
+-- The items; this many bytes are still inside the item before, or its padding. At each byte that isn't, one begins.
 abbrev pub items_after : (inside : ℕ) → List ℕ → Option (List Typed)
 items_after inside [] = Some []
 items_after (suc inside) (b ∷ bytes) = items_after inside bytes
 items_after zero (b ∷ bytes) =
-    if starts_typed (b ∷ bytes) then option_map (λ (others : List Typed). typed_at (b ∷ bytes) ∷ others) (items_after (padded (length_field (b ∷ bytes)) - 1) bytes)
+    if starts_typed (b ∷ bytes)
+    then option_map (λ (others : List Typed). typed_at (b ∷ bytes) ∷ others) (items_after (padded (length_field (b ∷ bytes)) - 1) bytes)
     else None
 
 -- the list that bytes are, if they are one
@@ -85,6 +87,6 @@ are_typed bytes = is_some (typed_of bytes)
 abbrev pub typed_in : List ℕ → List Typed
 typed_in bytes = unwrap_or (typed_of bytes) []
 
--- The bytes are as they would be written for their items: the padding between them is zero, and none stands behind the last.
+-- The bytes are as they would be written for their items: the padding between them is zero, and there is none after the last.
 abbrev pub AreAsWritten : List ℕ → Type 0
 AreAsWritten bytes = bytes ≡ written_typed (typed_in bytes)

@@ -1,14 +1,14 @@
--- Types that an endpoint doesn't know: what is still processed and what is reported, by the two highest bits of the type (RFC 9260, 3.2 and 3.2.1).
--- What an end does about such a chunk is told with its other chunks; of parameters it is told here.
+-- Types that an endpoint doesn't know: what is still processed and what is reported, by the two highest bits of the type (RFC 9260, 3.2 and 3.2.1). What an
+-- endpoint does about such a chunk is defined with its other chunks; of parameters it is defined here.
 use Rattle.std.specs.Prelude.{ℕ, ◌-◌, ◌/◌, ◌%◌, ◌^◌, Bool, true, false, if◌then◌else◌, ◌==◌, ◌||◌, nat_lt, List, [], ◌∷◌, Option, Some, None}
 use Rattle.sctp_model.specs.wire.Typed.{Typed}
 
--- What is done about an unknown type: nothing behind it is looked at any more, and it is reported.
+-- What is done about an unknown type: nothing after it is looked at any more, and it is reported.
 pub record RuleMeaning : Type 0 where
   pub stop : Bool
   pub report : Bool
 
--- By the two highest bits of a type of so many bits: 00 stop; 01 stop and report; 10 skip; 11 skip and report.
+-- By the two highest bits of a type of this many bits: 00 stop; 01 stop and report; 10 skip; 11 skip and report.
 abbrev pub rule_of : (bits : ℕ) → ℕ → RuleMeaning
 rule_of bits kind = record { stop = nat_lt kind (2 ^ (bits - 1)); report = kind / 2 ^ (bits - 2) % 2 == 1 }
 
@@ -54,7 +54,7 @@ reported_from x later =
     if is_known_parameter x.kind || is_passed_over x.kind then later
     else reported_before (parameter_rule x.kind).report x (if (parameter_rule x.kind).stop then [] else later)
 
--- The parameters of a chunk that are reported, each that is repeated too, none behind one that stops.
+-- The parameters of a chunk that are reported, each that is repeated too, none after one that stops.
 abbrev pub parameters_reported : List Typed → List Typed
 parameters_reported [] = []
 parameters_reported (x ∷ xs) = reported_from x (parameters_reported xs)

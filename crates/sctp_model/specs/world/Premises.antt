@@ -17,48 +17,49 @@ use Rattle.sctp_model.specs.world.Events.{Event, OpenBoth, Drawing, Connect, For
 use Rattle.sctp_model.specs.world.Steps.{Run, PassesThrough, last_of}
 use Rattle.sctp_model.specs.world.Aged.{Aged}
 
--- ---- chance: which tags are drawn (RFC 9260, 5.3.1)
+-- ---- random numbers: which tags are generated (RFC 9260, 5.3.1)
 
--- the draws that an event hands in
+-- the random values that an event hands in
 abbrev pub draws_of : Event → List Draw
 draws_of (OpenBoth x y) = x ∷ y ∷ []
 draws_of (Connect d) = d ∷ []
 draws_of (Drawing d) = d ∷ []
 draws_of e = []
 
--- The tags of a whole run, those that are drawn late too, and that of the draw which stands at its start.
+-- The tags of a whole run, those that are generated late too, and the one that a world has at its start.
 abbrev pub drawn_in : List Event → List ℕ
 drawn_in es = map (λ (d : Draw). d.tag) (FIRST_DRAW ∷ joined (map draws_of es))
 
--- ---- strangers
+-- ---- third parties
 
 -- the listener reads a body under its own seal
 abbrev pub IsBody : Option Body → Type 0
 IsBody (Some b) = Unit {0}
 IsBody None = ⊥
 
--- A chunk that only the two ends could have made: an INIT that asks for a tag of theirs, or a COOKIE ECHO of a cookie whose MAC is right.
+-- A chunk that only the two endpoints could have made: an INIT that asks for a tag of theirs, or a COOKIE ECHO of a cookie whose MAC is right.
 abbrev pub IsTheirs : Sealing → List ℕ → ChunkMeaning → Type 0
 IsTheirs s tags (Init m) = Has tags m.tag
 IsTheirs s tags (CookieEcho cookie) = IsBody (s.opened cookie)
 IsTheirs s tags x = ⊥
 
--- A stranger's packet. It carries none of these tags, and no INIT in it asks for one (FRESH), nor does a cookie in it open (UNFORGED).
+-- A third party's packet. It carries none of these tags, and no INIT in it asks for one (FRESH), nor does a cookie in it open (UNFORGED).
 pub record IsStranger (s : Sealing) (tags : List ℕ) (p : Packet) : Type 0 where
   pub untagged : Has tags p.tag → ⊥
   pub chunks : (x : ChunkMeaning) → Has p.chunks x → IsTheirs s tags x → ⊥
 
--- FRESH and UNFORGED, of the events of a run: whoever else sends to either end is a stranger. (That no tag is 0 is in each step that draws.)
+-- FRESH and UNFORGED, of the events of a run: each packet of whoever else sends to either endpoint is a third party's. (That no tag is 0 is in each step
+-- that takes random values.)
 abbrev pub FreshAndUnforged : Sealing → List Event → Type 0
 FreshAndUnforged s es = (x : Side) (p : Packet) → Has es (Foreign x (Some p)) → IsStranger s (drawn_in es) p
 
 -- ---- SAFE
 
--- what an end's user asked for, as its log and its clock tell it
+-- what an endpoint's user asked for, by its log and its clock
 abbrev pub asked_at : World → Side → Asked
 asked_at w s = record { calls = (log_of w s).calls; named = (log_of w s).named; clock = clock_of w s }
 
--- SAFE: the five promises in both directions, in the format that the sending end agreed on.
+-- SAFE: the five promises in both directions, in the format that the sending endpoint agreed on.
 abbrev pub IsSafeWorld : World → Type 0
 IsSafeWorld w = (s : Side) → Safe (format_of (end_of w s)) (end_of w s).sender (end_of w (other s)).receiver (asked_at w s)
 
@@ -68,17 +69,17 @@ IsSafeWorld w = (s : Side) → Safe (format_of (end_of w s)) (end_of w s).sender
 abbrev pub HasEntry : Plan → Lane → ℕ → Type 0
 HasEntry p l n = (i : ℕ) × (e : Entry) × (entry_at p i ≡ Some e) × IsOf l n e
 
--- nothing is missing of what one end sent: every message with an index was abandoned, or was handed over across
+-- nothing is missing of what one endpoint sent: every message with an index was abandoned, or was delivered at the other
 abbrev pub IsAllArrived : SenderView → ReceiverView → Type 0
 IsAllArrived a r = (l : Lane) (n : ℕ) → HasEntry a.plan l n → (a.abandoned l n ≡ true) ⊎ WasHanded a.plan r l n
 
--- CLOSING: once either end has completed, nothing is missing either way (RFC 9260, 9.2).
+-- CLOSING: once either endpoint has completed, nothing is missing either way (RFC 9260, 9.2).
 abbrev pub IsClosedWorld : World → Type 0
 IsClosedWorld w = (s : Side) → (end_of w s).phase ≡ Over Completed → IsAllArrived w.a.sender w.b.receiver × IsAllArrived w.b.sender w.a.receiver
 
 -- ---- the worlds that the theorems speak of
 
--- These events lead from START to this world, the ends are set up within the limits, and FRESH and UNFORGED hold.
+-- These events lead from START to this world, the endpoints are set up within the limits, and FRESH and UNFORGED hold.
 pub record IsReachable (s : Setup) (events : List Event) (w : World) : Type 0 where
   pub configured : (x : Side) → IsConfiguration (configuration_of s x)
   pub answers : List (Option Outcome)

@@ -13,9 +13,14 @@ use Rattle.sctp_model.specs.end.Strays.{Verdict}
 use Rattle.sctp_model.specs.end.Arriving.{Receives, IsCutShort}
 use Rattle.sctp_model.specs.end.Building.{Builds, packet_of}
 use Rattle.sctp_model.specs.end.Moments.{ticked}
-use Rattle.sctp_model.specs.end.UserCalls.{Called, NotIdle, connect_answer, called, SendAnswer, Ticket, Refused, NotOpen, send_answer, send_leaves, abandons, abandoned_at, UserTakes, reset_call, reset_leaves, reset_there, told_leaves, shutdown_answer, shut, abort_answer, abort_leaves}
-use Rattle.sctp_model.specs.world.World.{Side, A, B, other, are_alike, Log, World, end_of, bag_of, log_of, with_end, with_packet, with_log, end_now, came, logged, logged_one, clock_of, with_clock}
-use Rattle.sctp_model.specs.world.Events.{Event, OpenBoth, At, Drawing, Connect, Build, Deliver, Foreign, Send, Abandon, Take, Reset, WasReset, Shutdown, Abort, brings_packet, Outcome, Done, RefusedState, Sent, Quiet, Absent, Told, Fate, next_number, told, with_verdict, abort_told, with_abort, reset_told, resets_told, shutdown_told, message_told, Later, Moment}
+use Rattle.sctp_model.specs.end.UserCalls.{Called, NotIdle, connect_answer, called, SendAnswer, Ticket, Refused, NotOpen, send_answer, send_leaves}
+use Rattle.sctp_model.specs.end.UserCalls.{abandons, abandoned_at, UserTakes, reset_call, reset_leaves, reset_there, told_leaves, shutdown_answer, shut}
+use Rattle.sctp_model.specs.end.UserCalls.{abort_answer, abort_leaves}
+use Rattle.sctp_model.specs.world.World.{Side, A, B, other, are_alike, Log, World, end_of, bag_of, log_of, with_end, with_packet, with_log, end_now, came}
+use Rattle.sctp_model.specs.world.World.{logged, logged_one, clock_of, with_clock}
+use Rattle.sctp_model.specs.world.Events.{Event, OpenBoth, At, Drawing, Connect, Build, Deliver, Foreign, Send, Abandon, Take, Reset, WasReset, Shutdown}
+use Rattle.sctp_model.specs.world.Events.{Abort, brings_packet, Outcome, Done, RefusedState, Sent, Quiet, Absent, Told, Fate, next_number, told}
+use Rattle.sctp_model.specs.world.Events.{with_verdict, abort_told, with_abort, reset_told, resets_told, shutdown_told, message_told, Later, Moment}
 
 -- ---- logs
 
@@ -29,10 +34,10 @@ accepted w s NotOpen c = log_of w s
 abbrev pub named_at : Log → AbandonAnswer → ℕ → Log
 named_at l a ticket = record l { named = if gives_up a then at l.named ticket true else l.named }
 
--- ---- packets that come
+-- ---- packets that arrive
 
--- The event brings this to the end of this side: a packet of the bag across; a stranger's, in which each chunk stands where it may; or a stranger's
--- bytes that don't read.
+-- The event brings this to the endpoint of this side: a packet of the bag across; a third party's, in which each chunk is where it may be; or a third
+-- party's bytes that don't read.
 pub data Brings (w : World) : Event → Side → Option Packet → Type 0 where
   FromBag : (s : Side) (n : ℕ) (p : Packet) → item_at (bag_of w s) n ≡ Some p → Brings w (Deliver s n) (other s) (Some p)
   FromStranger : (s : Side) (p : Packet) → ArePlaced p.chunks → Brings w (Foreign s (Some p)) s (Some p)
@@ -40,14 +45,15 @@ pub data Brings (w : World) : Event → Side → Option Packet → Type 0 where
 
 -- ---- STEP
 
--- In the world `w` the event is answered so, and leaves the last world. None for an answer: memory was wanted. A packet is then cut short; any
--- other event has changed nothing.
+-- In the world `w` the event is answered so, and leaves the last world. None for an answer: an allocation failed. A packet is then cut short; any other
+-- event has changed nothing.
 pub data Step (w : World) : Event → Option Outcome → World → Type 0 where
   OpensBoth : (x y : Draw) → are_alike w.a.configuration w.b.configuration ≡ true → w.openable ≡ true → IsDraw x → IsDraw y →
       Step w (OpenBoth x y) (Some Done) (record w { a = opened w.a.configuration x y; b = opened w.b.configuration y x; openable = false })
   OpenRefused : (x y : Draw) → (w.openable && are_alike w.a.configuration w.b.configuration) ≡ false → Step w (OpenBoth x y) (Some RefusedState) w
   TimeGoesOn : (s : Side) (m : ℕ) → m < 2 ^ 64 → Step w (Later s m) (Some Done) (with_clock w s m)
-  MomentComes : (s : Side) → Step w (Moment s) (Some Done) (with_log (with_end w s (ticked (end_of w s) (clock_of w s))) s (logged w s (ticked (end_of w s) (clock_of w s))))
+  MomentComes : (s : Side) →
+      Step w (Moment s) (Some Done) (with_log (with_end w s (ticked (end_of w s) (clock_of w s))) s (logged w s (ticked (end_of w s) (clock_of w s))))
   TimePasses : (m : ℕ) → m < 2 ^ 64 → Step w (At m) (Some Done) (record w {
     a = ticked w.a (max w.clock_a m);
     b = ticked w.b (max w.clock_b m);
@@ -72,8 +78,10 @@ pub data Step (w : World) : Event → Option Outcome → World → Type 0 where
       (with_log (with_end w s (abandoned_at (end_of w s) k)) s (named_at (logged_one w s k (abandoned_at (end_of w s) k)) (abandons (end_of w s) k) k))
   TakesOne : (s : Side) (n : ℕ) (h : Option Handed) (t : EndView) → UserTakes (end_of w s) n h t →
       Step w (Take s n) (Some (message_told h)) (with_end w s t)
-  ResetsOne : (s : Side) (n : ℕ) → Step w (Reset s n) (Some (reset_told (reset_call (end_of w s) n))) (with_end w s (reset_leaves (reset_call (end_of w s) n) (end_of w s) n))
-  TellsReset : (s : Side) → Step w (WasReset s) (Some (resets_told (end_of w s) (reset_there (end_of w s)))) (with_end w s (told_leaves (reset_there (end_of w s)) (end_of w s)))
+  ResetsOne : (s : Side) (n : ℕ) →
+      Step w (Reset s n) (Some (reset_told (reset_call (end_of w s) n))) (with_end w s (reset_leaves (reset_call (end_of w s) n) (end_of w s) n))
+  TellsReset : (s : Side) →
+      Step w (WasReset s) (Some (resets_told (end_of w s) (reset_there (end_of w s)))) (with_end w s (told_leaves (reset_there (end_of w s)) (end_of w s)))
   ShutsDown : (s : Side) → Step w (Shutdown s) (Some (shutdown_told (shutdown_answer (end_of w s).phase))) (with_end w s (shut (end_of w s)))
   AbortsIt : (s : Side) (r : List ℕ) → Step w (Abort s r) (Some (abort_told w s (abort_answer (end_of w s) r)))
       (with_abort (with_end w s (abort_leaves (abort_answer (end_of w s) r) (end_of w s))) s (abort_answer (end_of w s) r))

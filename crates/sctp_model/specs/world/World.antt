@@ -13,20 +13,20 @@ use Rattle.sctp_model.specs.end.Clock.{at_moment}
 pub data Side : Type 0 where
   A B : Side
 
--- the end across
+-- the endpoint across
 abbrev pub other : Side → Side
 other A = B
 other B = A
 
--- What is remembered of an end's user: the calls of `send` that were accepted, by ticket; the tickets of the messages that its calls of
--- `abandon` gave up; and those of the messages that were abandoned, in the order of the events that did it, those of one event by rising ticket.
+-- What is remembered of an endpoint's user: the calls of `send` that were accepted, by ticket; the tickets of the messages that its calls of `abandon` gave
+-- up; and those of the messages that were abandoned, in the order of the events that did it, those of one event by rising ticket.
 pub record Log : Type 0 where
   pub calls : List Call
   pub named : ℕ → Bool
   pub order : List ℕ
 
--- The network loses nothing for good: every packet of an end stays in its bag, and may come at any time, often, or never. `openable` tells
--- whether both ends may still be opened without packets: neither has called, nor was anything delivered. Each end has a clock of its own, in
+-- The network loses nothing for good: every packet of an endpoint stays in its bag, and may arrive at any time, often, or never. `openable` says whether
+-- both endpoints may still be opened without packets: neither has called, nor was anything delivered. Each endpoint has a clock of its own, in
 -- milliseconds; nothing compares the two.
 pub record World : Type 0 where
   pub a : EndView
@@ -42,7 +42,7 @@ pub record World : Type 0 where
 
 -- ---- by side
 
--- the end of a side
+-- the endpoint of a side
 abbrev pub end_of : World → Side → EndView
 end_of w A = w.a
 end_of w B = w.b
@@ -62,7 +62,7 @@ abbrev pub clock_of : World → Side → ℕ
 clock_of w A = w.clock_a
 clock_of w B = w.clock_b
 
--- another end in its place
+-- another endpoint in its place
 abbrev pub with_end : World → Side → EndView → World
 with_end w A e = record w { a = e }
 with_end w B e = record w { b = e }
@@ -82,7 +82,7 @@ abbrev pub with_clock : World → Side → ℕ → World
 with_clock w A m = record w { clock_a = max w.clock_a m }
 with_clock w B m = record w { clock_b = max w.clock_b m }
 
--- the end at the time of its clock
+-- the endpoint at the time of its clock
 abbrev pub end_now : World → Side → EndView
 end_now w s = at_moment (end_of w s) (clock_of w s)
 
@@ -101,11 +101,11 @@ newly_abandoned v u (suc n) = newly_abandoned v u n ++ if_newly_abandoned v u (s
 abbrev pub with_order : Log → List ℕ → Log
 with_order l tickets = record l { order = l.order ++ tickets }
 
--- the log of an end that a moment or a packet left so: it may be too late for some of its messages, or some may not be retransmitted again
+-- the log of an endpoint that a time or a packet left like this: it may be too late for some of its messages, or some may not be retransmitted again
 abbrev pub logged : World → Side → EndView → Log
 logged w s t = with_order (log_of w s) (newly_abandoned (end_of w s).sender t.sender t.sender.tickets)
 
--- the log of an end that a call of `abandon` left so, which abandons the message of its ticket alone
+-- the log of an endpoint that a call of `abandon` left like this, which abandons the message of its ticket alone
 abbrev pub logged_one : World → Side → (ticket : ℕ) → EndView → Log
 logged_one w s k t = with_order (log_of w s) (if_newly_abandoned (end_of w s).sender t.sender k)
 
@@ -135,7 +135,7 @@ pub record Setup : Type 0 where
   pub b_port : ℕ
   pub sealing : Sealing
 
--- what the end of a side is set up with
+-- what the endpoint of a side is set up with
 abbrev pub configuration_of : Setup → Side → Configuration
 configuration_of s A = record (s.of_a) { own_port = s.a_port; peer_port = s.b_port }
 configuration_of s B = record (s.of_b) { own_port = s.b_port; peer_port = s.a_port }
@@ -144,8 +144,8 @@ configuration_of s B = record (s.of_b) { own_port = s.b_port; peer_port = s.a_po
 abbrev pub is_shared : Bool → Bool → Bool
 is_shared a b = if a then b else not b
 
--- They may be opened without packets, since they would agree: on as many streams each way, on the format, and on partial reliability and stream reset, which both have or neither has (RFC
--- 9260, 5.1.1).
+-- They may be opened without packets, since they would agree: on as many streams each way, on the format, and on partial reliability and stream reset,
+-- which both have or neither has (RFC 9260, 5.1.1).
 abbrev pub are_alike : Configuration → Configuration → Bool
 are_alike c d =
     (min d.outbound d.inbound == min c.outbound c.inbound) &&
@@ -155,11 +155,11 @@ are_alike c d =
 abbrev pub no_log : Log
 no_log = record { calls = []; named = λ t. false; order = [] }
 
--- the draw that stands before any other is handed in
+-- the random values before any others are handed in
 abbrev pub FIRST_DRAW : Draw
 FIRST_DRAW = record { tag = 1; tsn = 1 }
 
--- START: two ends that nothing has happened to, and nothing between them.
+-- START: two endpoints that nothing has happened to, and nothing between them.
 abbrev pub start : Setup → World
 start s = record {
   a = fresh_end (configuration_of s A) Caller Idle;

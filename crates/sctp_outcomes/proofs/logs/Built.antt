@@ -72,7 +72,7 @@ asking_keeps e after s =
     joined_keeps e (asking e) (ap (λ (v : SenderView). v.plan) u.sender.1) (ap (λ (v : SenderView). v.tickets) u.sender.1)
     (record { taken = ap (λ (r : ReceiverView). r.taken) u.receiver.1; buffer = ap (λ (r : ReceiverView). r.buffer) u.receiver.1 }) u.configuration (ap is_before u.phase ∙ after) s
 
--- so what adds numbers to that end, adds them to this one
+-- so what adds numbers to that endpoint, adds them to this one
 asked_adds : (e t : EndView) → AddsNumbers (asking e) t → AddsNumbers e t
 asked_adds e t a =
     let u = asking_same e in
@@ -86,7 +86,7 @@ asked_adds e t a =
 
 -- ---- the packet
 
--- an end whose sender has grown, with an association
+-- an endpoint whose sender has grown, with an association
 grown : (e t : EndView) → Grows e.sender t.sender → IsSameToUser e.receiver t.receiver → t.configuration ≡ e.configuration → is_before t.phase ≡ false → IsSound e → AddsNumbers e t
 grown e t g same configuration after s = record {
   sound = record { bare = λ on. never after on; buffer = same.buffer ∙ s.buffer ∙ ap (λ (c : Configuration). c.buffer) (sym configuration); named = g.named };
@@ -107,7 +107,7 @@ put_grown : (e t : EndView) → IsPut e t → is_before e.phase ≡ false → Is
 put_grown e t p after s =
     grown e t (grows_not e.sender t.sender (ap (λ (v : SenderView). v.plan) p.sender) (ap (λ (v : SenderView). v.tickets) p.sender) s.named) p.same p.configuration (ap is_before p.phase ∙ after) s
 
--- fragments behind what is due
+-- fragments after what is due
 sent_grown : (e x : EndView) (zs : List ChunkMeaning) → IsPut e x → is_before e.phase ≡ false → IsSound e → AddsNumbers e (sent x zs)
 sent_grown e x zs p after s =
     let from = subst (λ (v : SenderView). Grows v (sent x zs).sender) p.sender

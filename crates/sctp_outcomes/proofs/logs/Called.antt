@@ -96,7 +96,7 @@ reset_keeps_logs e n s = go e.terms.reset (hears is_established e.phase) (nat_le
     go true true true is = keeps_itself e s
     go true true false is = begun is
 
--- before an association no reset came
+-- before an association no reset arrived
 pub told_keeps_logs : ToldKeepsLogs
 told_keeps_logs e s = go (reset_there e) refl (is_before e.phase) refl
   where

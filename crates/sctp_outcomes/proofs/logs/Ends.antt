@@ -102,7 +102,7 @@ begins_keeps e t plan tickets taken buffer after before s =
       taken = taken ∙ sym (ap (λ (r : ReceiverView). r.taken) u.receiver);
     }
 
--- an end that is drained goes on with closing
+-- an endpoint that is drained goes on with closing
 pub rested_keeps : (e : EndView) → IsSound e → KeepsLogs e (rested e)
 rested_keeps e s =
     rested_cases (KeepsLogs e) e (keeps_itself e s)

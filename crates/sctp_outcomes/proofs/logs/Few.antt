@@ -1,4 +1,4 @@
--- Fragments that go into a packet begin a message for each 20 bytes of its room at most: the chunk that begins one has a byte of it at least.
+-- Fragments that go into a packet begin a message for each 20 bytes of its space at most: the chunk that begins one has a byte of it at least.
 use Rattle.std.proofs.Common.{◌≡◌, ℕ, zero, suc, ◌+◌, ◌-◌, ◌*◌, ◌/◌, ◌<◌, ◌≤◌, false, List, [], ◌∷◌, ◌++◌, length, drop, Option, Some, None, refl, sym, subst, ap, ◌∙◌, arith, length-append}
 use Rattle.std.specs.Prelude.{◌==◌, slice_get, option_and_then}
 use Rattle.std.specs.List.{cons_option}
@@ -42,7 +42,7 @@ end_begins_none p l n = go (message_at p l n)
     go None = refl
     go (Some m) = refl
 
--- the fragments of a message behind its first
+-- the fragments of a message after its first
 rest_begins_none : (p : Plan) (l : Lane) (n k d : ℕ) → begun_tickets p (parts_from l n (suc k) d) ≡ []
 rest_begins_none p l n k zero = refl
 rest_begins_none p l n k (suc d) = rw (later_begins_none p l n k) (rest_begins_none p l n (suc k) d)
@@ -65,7 +65,7 @@ entry_begins p (Part l n zero) = parts_begin p l n 1
 entry_begins p (Part l n (suc k)) = NoneBegins (rw (later_begins_none p l n k) refl)
 entry_begins p (End l n) = NoneBegins (rw (end_begins_none p l n) refl)
 
--- The entries that are assigned come behind the others.
+-- The entries that are assigned are after the others.
 record IsOneMore (v u : SenderView) : Type 0 where
   more : List Entry
   entries : u.plan.entries ≡ v.plan.entries ++ more
@@ -153,7 +153,7 @@ most_begin (suc many) f room v named reached = go (goes f room v) refl (λ w kno
         let fits = room_fits f room w p.1 in
         omega (arith, one, rest, fits)
 
--- Into this room go the first fragments of so many messages at most.
+-- Into this space go the first fragments of this many messages at most.
 pub few_filled : (f : Format) (room : ℕ) (v : SenderView) → IsNamed v.plan → IsReached f v → 20 * length (newly_numbered v (fill f room v).view) ≤ room
 few_filled f room v named reached =
     let most = most_begin room f room v named reached in
@@ -162,6 +162,6 @@ few_filled f room v named reached =
     ap (λ (ts : List ℕ). length ts) (numbers_grow v u named (grows_filled f room v named)) ∙ length-append (begun_tickets v.plan v.plan.entries) (newly_numbered v u) in
     omega (arith, most, count)
 
--- and none where nothing goes
+-- and none if nothing goes
 pub none_newly : (v u : SenderView) → u ≡ v → newly_numbered v u ≡ []
 none_newly v u same = subst (λ (x : SenderView). newly_numbered v x ≡ []) (sym same) (ap (begun_tickets v.plan) (ap (drop (length v.plan.entries)) (sym (append-nil v.plan.entries)) ∙ drop_behind v.plan.entries []))

@@ -1,4 +1,4 @@
--- What a packet's fragments leave of a sender's tickets and numbers: the newly numbered come behind all before them.
+-- What a packet's fragments leave of a sender's tickets and numbers: the newly numbered are after all before them.
 use Rattle.std.proofs.Common.{◌≡◌, ℕ, zero, suc, ◌-◌, ◌<◌, ◌≤◌, Bool, true, false, List, [], ◌∷◌, ◌++◌, length, drop, Option, Some, None, inl, inr, refl, sym, subst, ap, ◌∙◌, arith, length-append}
 use Rattle.std.specs.Prelude.{◌==◌, nat_lt, option_and_then}
 use Rattle.std.specs.Option.{option_or, option_map_or}
@@ -153,7 +153,7 @@ grows_most (suc many) f room v named = go (goes f room v) refl (λ w known. grow
 pub grows_filled : (f : Format) (room : ℕ) (v : SenderView) → IsNamed v.plan → Grows v (fill f room v).view
 grows_filled f room v named = grows_most room f room v named
 
--- where none goes, nothing changes
+-- if none goes, nothing changes
 fills_nothing : (many : ℕ) (f : Format) (room : ℕ) (v : SenderView) → (fill_at_most many f room v).wishes ≡ [] → (fill_at_most many f room v).view ≡ v
 fills_nothing zero f room v none = refl
 fills_nothing (suc many) f room v none = go (goes f room v) none
@@ -178,7 +178,7 @@ pub drop_behind : (es ds : List Entry) → drop (length es) (es ++ ds) ≡ ds
 drop_behind [] ds = refl
 drop_behind (e ∷ es) ds = drop_behind es ds
 
--- Those newly numbered come behind all before them.
+-- Those newly numbered are after all before them.
 pub numbers_grow : (v u : SenderView) → IsNamed v.plan → Grows v u → begun_tickets u.plan u.plan.entries ≡ begun_tickets v.plan v.plan.entries ++ newly_numbered v u
 numbers_grow v u named g =
     let new : drop (length v.plan.entries) u.plan.entries ≡ g.more = ap (drop (length v.plan.entries)) g.entries ∙ drop_behind v.plan.entries g.more in

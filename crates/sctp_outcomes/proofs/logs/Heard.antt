@@ -1,4 +1,4 @@
--- A packet that comes notes nothing.
+-- A packet that arrives notes nothing.
 use Rattle.std.proofs.Common.{◌≡◌, ℕ, zero, suc, Bool, true, false, List, [], ◌∷◌, Some, None, inl, inr, refl, sym, subst, ap, ◌∙◌}
 use Rattle.std.specs.Prelude.{if◌then◌else◌, ◌==◌, ◌&&◌}
 use Rattle.sctp_model.specs.wire.Packet.{Packet}
@@ -35,7 +35,7 @@ use Rattle.sctp_model.specs.sender.SenderView.{SenderView}
 use Rattle.sctp_safety.proofs.machine.Reconfigured.{parameters_same}
 use Rattle.std.proofs.lemmas.Bool.{and_parts}
 
--- ---- what comes to a receiver is taken by nobody yet
+-- ---- what arrives at a receiver is taken by nobody yet
 
 same : (r : ReceiverView) → IsSameToUser r r
 same r = record { taken = refl; buffer = refl }
@@ -76,7 +76,7 @@ forward_same f r m a t came = by_forward f r came.c m a t came.leaves
 
 -- ---- chunks
 
--- an end that is open has an association
+-- an endpoint that is open has an association
 open_after : (e : EndView) (h : Phase) → is_before h ≡ false → e.phase ≡ h → is_before e.phase ≡ false
 open_after e h after is = ap is_before is ∙ after
 
@@ -131,7 +131,7 @@ ends_keeps e tag (ForwardTsn m) t s h = elim h [ ]
 ends_keeps e tag (IForwardTsn m) t s h = elim h [ ]
 ends_keeps e tag (Unknown n f v) t s (IsUnknown _ _ h) = let u = unknown_ends e t n f v h in subst (KeepsLogs e) (sym u.same) (same_keeps e _ refl refl refl (λ on. on) s)
 
--- one that is answered: the end is closed
+-- one that is answered: the endpoint is closed
 pub replies_keeps : (e : EndView) (tag : ℕ) (x : ChunkMeaning) (t : EndView) (p : Packet) → IsSound e → Acts e tag x (Replies t p) → KeepsLogs e t
 replies_keeps e tag (Data q) t p s (PieceEmpty _ _ _ _ _) = same_keeps e t refl refl refl (λ on. absurd (cc)) s
 replies_keeps e tag (Data q) t p s (WrongFormat _ _ _ _ _ _) = same_keeps e t refl refl refl (λ on. absurd (cc)) s
@@ -207,7 +207,7 @@ arrives_keeps e d p t v s (Heard u n _ _ _ _ acts gap _) =
     let all = keeps_on e u x acted (worn_keeps_logs (missed_below e.pace) u acted.sound) in
     keeps_on e x (packet_ended (urged gap n) x) all (ended_keeps (urged gap n) x all.sound)
 
--- ---- at a moment
+-- ---- at a time
 
 pub moment_keeps : (e : EndView) (now : ℕ) → IsSound e → KeepsLogs e (at_moment e now)
 moment_keeps e now s = same_keeps e (at_moment e now) refl refl refl (λ on. on) s

@@ -49,7 +49,7 @@ has_cases (a ∷ xs) ys x (inr more) =
 
 -- ---- an end mark
 
--- it tells no ticket
+-- no ticket is reported with it
 no_ticket : (p : Plan) (l : Lane) (n : ℕ) → begun_ticket p (End l n) ≡ None
 no_ticket p l n = by_message (entry_message p (End l n))
   where

@@ -1,4 +1,4 @@
--- Small receivers, computed: chunks over the wraps, fragments of two messages, a dishonest pair, room to the last byte, FORWARDs over what is not
+-- Small receivers, computed: chunks over the wraps, fragments of two messages, a dishonest pair, a buffer to the last byte, FORWARDs over what is not
 -- whole, blocks.
 use Rattle.std.proofs.Common.{◌≡◌, ℕ, Bool, true, false, ◌||◌, ◌==◌, List, [], ◌∷◌, map, Option, Some, None, refl}
 use Rattle.sctp_model.specs.wire.Chunk.{PieceMeaning, SkipMeaning, ForwardMeaning}
@@ -58,7 +58,7 @@ both_are_handed_over : (texts (both_came.waiting 0) ≡ (1 ∷ []) ∷ (2 ∷ []
     × (both_came.next 0 ≡ 65537) × (both_came.kept ≡ []) × (cumulative both_came 9 ≡ 2)
 both_are_handed_over = (refl, refl, refl, refl, refl)
 
--- the second comes again
+-- the second arrives again
 again : (answer_to Plain both_came 2 (chunk false true true 0 0 7 2) ≡ Duplicate) × ((takes Plain both_came (chunk false true true 0 0 7 2)).duplicates ≡ 0 ∷ [])
 again = (refl, refl)
 
@@ -98,7 +98,7 @@ pair_due = takes Plain pair_came (chunk false true true 1 0 7 1)
 lower_counts : (texts (pair_due.waiting 0) ≡ (1 ∷ []) ∷ (2 ∷ []) ∷ []) × (pair_due.kept ≡ [])
 lower_counts = (refl, refl)
 
--- ---- room: what is kept and what waits for the user fill the buffer to its last byte
+-- ---- space: what is kept and what waits for the user fill the buffer to its last byte
 
 -- two bytes wait and one is kept, of four
 abbrev three_held : ReceiverView
@@ -111,7 +111,7 @@ two_more = record (chunk false true true 4 3 7 4) { bytes = 4 ∷ 5 ∷ [] }
 one_fits : (held_bytes three_held ≡ 3) × (answer_to Plain three_held 1 (chunk false true true 4 3 7 4) ≡ Kept) × (answer_to Plain three_held 1 two_more ≡ NoRoom) × (takes Plain three_held two_more ≡ three_held)
 one_fits = (refl, refl, refl, refl)
 
--- then not a byte more fits, also of the message that is due; what came again, or is waited for no longer, is told before
+-- then not a byte more fits, also of the message that is due; what arrived again, or is waited for no longer, is answered so before that
 abbrev four_held : ReceiverView
 four_held = takes Plain three_held (chunk false true true 4 3 7 4)
 
@@ -152,7 +152,7 @@ by_number : (indexes (forwards Interleaved (loose Interleaved) (record { cumulat
     × (indexes (forwards Interleaved (loose Interleaved) (record { cumulative = 3; skips = [] })).kept ≡ 3 ∷ 1 ∷ [])
 by_number = (refl, refl)
 
--- of three messages the second alone came: a FORWARD to 3 names 2, and it is handed over all the same
+-- of three messages the second alone arrived: a FORWARD to 3 names 2, and it is delivered all the same
 abbrev second_alone : ReceiverView
 second_alone = takes Plain (fresh_receiver 1 1 100) (chunk false true true 2 1 7 2)
 
@@ -162,7 +162,7 @@ all_abandoned = forwards Plain second_alone (record { cumulative = 3; skips = na
 second_is_handed_over : (texts (all_abandoned.waiting 0) ≡ (2 ∷ []) ∷ []) × (numbers_of (all_abandoned.waiting 0) ≡ Some 1 ∷ []) × (all_abandoned.next 0 ≡ 3) × (cumulative all_abandoned 9 ≡ 3)
 second_is_handed_over = (refl, refl, refl, refl)
 
--- the first message's chunk comes late: it is passed, and the FORWARD again is out of date
+-- the first message's chunk arrives late: it is passed, and the FORWARD again is out of date
 late_is_behind : (answer_to Plain all_abandoned 3 (chunk false true true 1 0 7 1) ≡ Duplicate)
     × (forward_answer all_abandoned 3 (record { cumulative = 3; skips = names false 2 ∷ [] }) ≡ OutOfDate)
 late_is_behind = (refl, refl)

@@ -1,4 +1,4 @@
--- What stands in a list that was joined, filtered or made from another.
+-- What is in a list that was joined, filtered or made from another.
 use Rattle.std.proofs.Common.{◌≡◌, ◌⊎◌, Bool, true, false, cond, List, [], ◌∷◌, ◌++◌, map, filter, inl, inr, refl, sym, subst, ap}
 use Rattle.std.specs.List.{flat_map}
 use Rattle.sctp_model.specs.numbers.Lists.{Has}
@@ -21,7 +21,7 @@ has_either (x ∷ xs) ys w (inr h) = go (has_either xs ys w h)
     go (inl k) = inl (inr k)
     go (inr k) = inr k
 
--- an element of a `flat_map` comes from one of the list's
+-- an element of a `flat_map` is from one of the list's
 pub has_source : {A B : Type 0} (g : A → List B) (xs : List A) (w : B) → Has (flat_map g xs) w → (x : A) × Has xs x × Has (g x) w
 has_source g [] w h = absurd h
 has_source {A} g (x ∷ xs) w h = go (has_either (g x) (flat_map g xs) w h) (has_source g xs w)
@@ -47,7 +47,7 @@ has_shorter y [] w h = absurd h
 has_shorter y (z ∷ zs) w (inl e) = (z, e, inl refl)
 has_shorter y (z ∷ zs) w (inr h) = let t = has_shorter y zs w h in (t.0, t.1, inr t.2)
 
--- what is filtered stands in the list and passes, and the other way round
+-- what is filtered is in the list and passes, and the other way round
 pub filtered_has : {A : Type 0} (test : A → Bool) (xs : List A) (w : A) → Has (filter test xs) w → Has xs w × (test w ≡ true)
 filtered_has test [] w h = absurd h
 filtered_has {A} test (y ∷ xs) w h = go (test y) refl (filtered_has test xs w) h

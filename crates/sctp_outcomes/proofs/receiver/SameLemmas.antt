@@ -1,4 +1,4 @@
--- The tests of sameness tell what is the same.
+-- The tests of sameness say what is the same.
 use Rattle.std.proofs.Common.{◌≡◌, ℕ, ◌==◌, ◌&&◌, Bool, true, false, List, [], ◌∷◌, Option, None, Some, refl, ap, sym, subst, ◌∙◌, eqb-true}
 use Rattle.std.proofs.lemmas.Bool.{and_parts, eq-eqb}
 use Rattle.sctp_model.specs.messages.Format.{Kind, Ordered, Unordered, Lane, same_kind, same_lane}

@@ -73,7 +73,7 @@ module _ (f : Format) (r : ReceiverView) (s : ℕ) where
       one_number n (whole_number f r.kept (ordered_lane s) n) (nat_lt n (r.skip (ordered_lane s))) (due_from f r.kept s (r.skip (ordered_lane s)) depth) refl refl
       (due_is depth (suc n) (omega arith))
 
--- ---- handing over
+-- ---- delivering
 
 pub ordered_is : (f : Format) (s : ℕ) (r : ReceiverView) → GivesOrdered f s r (gives_ordered f s r)
 ordered_is f s r =

@@ -1,4 +1,4 @@
--- Whatever happens at an end, a request of its own that waits for its answer is due, or its timer runs, while the end is established.
+-- Whatever happens at an endpoint, a request of its own that waits for its answer is due, or its timer runs, while the endpoint is established.
 use Rattle.std.proofs.Common.{ℕ, ◌≡◌, length, is_some, not, ◌||◌, ◌==◌, Bool, true, false, List, [], ◌∷◌, ◌++◌, Option, None, Some, refl, sym, subst, ap, ◌∙◌}
 use Rattle.std.specs.Prelude.{if◌then◌else◌, nat_lt, ◌&&◌, drop}
 use Rattle.sctp_model.specs.wire.Packet.{Packet}
@@ -39,7 +39,7 @@ use Rattle.sctp_model.proofs.sender.FillLaws.{fill_is_fill}
 use Rattle.sctp_safety.proofs.runs.Sending.{abandon_resets, expire_resets, follows_resets}
 use Rattle.sctp_model.specs.wire.Reconfig.{OUTGOING_RESET, RECONFIG_RESPONSE, reset_read, is_parameter, is_other_request, is_progress_code}
 
--- ---- an end
+-- ---- an endpoint
 
 -- Before an association none waits; in an established end one that does is due, or its timer runs.
 abbrev pub Goes : Phase → (waits due runs : Bool) → Type 0
@@ -65,7 +65,7 @@ IsAskingAt e = Goes e.phase (is_some e.sender.resets.pending) e.due.request (run
 same_resets : (e : EndView) (a : SenderView) → a.resets ≡ e.sender.resets → IsAskingAt e → IsAskingAt (record e { sender = a })
 same_resets e a same r = subst (λ (x : Outgoing). Goes e.phase (is_some x.pending) e.due.request (runs (e.timers ResetAlarm))) (sym same) r
 
--- where one waits still, it did, and is due or not as before
+-- if one waits still, it did, and is due or not as before
 fewer : (h : Phase) (w d r x y z : Bool) → (x ≡ true → (w ≡ true) × (y ≡ d) × (z ≡ r)) → Goes h w d r → Goes h x y z
 fewer (Open t Established) w d r x y z less h = λ on. (let l = less on in let was = h l.0 in rw (l.1, l.2) was)
 fewer (Open t ShutdownPending) w d r x y z less h = tt
@@ -94,7 +94,7 @@ fewer (Echoing t xs) w d r x y z less h = before x (λ on. (less on).0)
     before true up = absurd (let on = up refl in cc)
     before false up = refl
 
--- what it leaves is due, or its timer runs, where it waits at all
+-- what it leaves is due, or its timer runs, if it waits at all
 due_or_runs : (h : Phase) (w d r y z : Bool) → (y || z) ≡ true → Goes h w d r → Goes h w y z
 due_or_runs (Open t Established) w d r y z on h = λ waits. on
 due_or_runs (Open t ShutdownPending) w d r y z on h = tt
@@ -196,7 +196,7 @@ given_up_resets false v now = expire_resets now (count_up 1 v.tickets) v
 pub filled_resets : (f : Format) (room : ℕ) (v : SenderView) → (fill f room v).view.resets ≡ v.resets
 filled_resets f room v = (follows_resets f v room (fill f room v).wishes (fill f room v).view (fill_is_fill f room v).follows).last
 
--- either of two ends
+-- either of two endpoints
 either : (b : Bool) (t u : EndView) → IsAskingAt t → IsAskingAt u → IsAskingAt (if b then t else u)
 either true t u first second = first
 either false t u first second = second
@@ -282,7 +282,7 @@ asking_replies e tag (IForwardTsn m) t p r (WrongKind _ _ _ _ _) = tt
 asking_replies e tag (IForwardTsn m) t p r (IsBad _ _ _ _ _ _ _) = tt
 asking_replies e tag (Unknown n f v) t p r (IsUnknown _ _ h) = absurd (unknown_never_replies e t p n f v h)
 
--- ---- a packet that comes
+-- ---- a packet that arrives
 
 asking_acts : (tag : ℕ) (e : EndView) (b : Notes) (xs : List ChunkMeaning) (t : EndView) (m : Notes) (v : Verdict) → IsAskingAt e → AllAct tag e b xs t m v → IsAskingAt t
 asking_acts tag e b xs t m v r (NoneLeft _ _) = r

@@ -12,7 +12,7 @@ use Rattle.sctp_safety.proofs.machine.OneEnd.{IsAt, at_end, at_log, at_packet, a
 use Rattle.sctp_outcomes.proofs.resets.AskingEnds.{Goes, runs, IsAskingAt, asking_arrives, asking_builds, asking_ticked, asking_sent, asking_abandoned, asking_shut, asking_aborted, asking_reset, asking_told}
 use Rattle.sctp_outcomes.specs.Resets.{NoRequestIsForgotten}
 
--- both ends are
+-- both endpoints are
 abbrev pub AreAsking : World → Type 0
 AreAsking w = (x : Side) → IsAskingAt (end_of w x)
 

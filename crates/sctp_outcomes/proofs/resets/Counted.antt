@@ -1,4 +1,5 @@
--- What is noted of a reset at a receiver, to be reported, is how many messages had been delivered when a request was performed; and no fewer are delivered later.
+-- What is noted of a reset at a receiver, to be reported, is how many messages had been delivered when a request was performed; and no fewer are delivered
+-- later.
 use Rattle.std.proofs.Common.{◌≡◌, ◌⊎◌, ℕ, zero, suc, ◌≤◌, Bool, true, false, List, [], ◌++◌, length, length-append, Some, inl, inr, refl, sym, subst, ap, ◌∙◌, arith, if◌then◌else◌}
 use Rattle.sctp_model.specs.numbers.Lists.{at}
 use Rattle.sctp_model.specs.wire.Typed.{Typed}
@@ -16,7 +17,8 @@ use Rattle.sctp_model.specs.receiver.ResetTaken.{names, reset_answer, is_in_turn
 use Rattle.std.specs.Prelude.{◌==◌}
 use Rattle.std.proofs.lemmas.Bool.Decides.{nat_tests}
 
--- One of these requests was performed that names this stream, when so many messages of it had been delivered: no fewer than at first, and no more than at last.
+-- One of these requests was performed that names this stream, when this many messages of it had been delivered: no fewer than at first, and no more than at
+-- last.
 pub record IsPerformed (P : ReceiverView → ℕ → ResetMeaning → Type 0) (r t : ReceiverView) (s n : ℕ) : Type 0 where
   pub receiver : ReceiverView
   pub cumulative : ℕ
@@ -34,7 +36,7 @@ pub record Counts (P : ReceiverView → ℕ → ResetMeaning → Type 0) (r t : 
   pub grown : (s : ℕ) → length (handed r s) ≤ length (handed t s)
   pub told : (s n : ℕ) → t.resets.told s ≡ Some n → (r.resets.told s ≡ Some n) ⊎ IsPerformed P r t s n
 
--- as many messages, and what is told was told before
+-- as many messages, and what is reported was reported before
 pub counts_calm : {P : ReceiverView → ℕ → ResetMeaning → Type 0} (r t : ReceiverView) → ((s : ℕ) → length (handed r s) ≤ length (handed t s)) → t.resets ≡ r.resets → Counts P r t
 counts_calm r t grown resets = record { grown = grown; told = λ s n is. inl (subst (λ (x : Incoming). x.told s ≡ Some n) resets is) }
 
@@ -104,7 +106,7 @@ counts_among {P} {Q} r t among k = record { grown = k.grown; told = λ s n is. g
 
 -- ---- messages are delivered
 
--- nothing is taken, more waits, and no request comes
+-- nothing is taken, more waits, and no request arrives
 record More (r t : ReceiverView) : Type 0 where
   taken : t.taken ≡ r.taken
   waiting : (s : ℕ) → length (r.waiting s) ≤ length (t.waiting s)
@@ -171,7 +173,7 @@ forward_counts f r m a t came = more_counts r t (by_forward f r came.c m a t cam
 
 -- ---- a request is answered
 
--- what a request leaves to be told
+-- what a request leaves to be reported
 told_then : (r : ReceiverView) (number : ℕ) (named : ℕ → Bool) (b : Bool) (a : ResetResult) (s n : ℕ) → (if b then with_answer (renumbered_by r named a) number a else r).resets.told s ≡ Some n
     → (r.resets.told s ≡ Some n) ⊎ ((b ≡ true) × ((a ≡ Performed) × ((named s ≡ true) × (n ≡ length (handed r s)))))
 told_then r number named false a s n is = inl is
@@ -231,6 +233,6 @@ denied_counts {P} r number xs = record {
     by_told s n (inl before) = inl before
     by_told s n (inr (turn, (done, (named, count)))) = absurd (cc)
 
--- a new receiver, where nothing was delivered before
+-- a new receiver, if nothing was delivered before
 pub fresh_counts : {P : ReceiverView → ℕ → ResetMeaning → Type 0} (r : ReceiverView) (i n b : ℕ) → ((s : ℕ) → handed r s ≡ []) → Counts P r (fresh_receiver i n b)
 fresh_counts r i n b none = record { grown = λ s. (let q = ap length (none s) in omega (arith, q)); told = λ s k is. absurd (cc) }

@@ -1,4 +1,4 @@
--- What each event leaves of an end's receiver: what is noted of its resets is of requests performed.
+-- What each event leaves of an endpoint's receiver: what is noted of its resets is of requests performed.
 use Rattle.std.proofs.Common.{◌≡◌, ℕ, Bool, true, false, ◌&&◌, List, [], ◌∷◌, is_some, refl, sym, subst, ap, ◌∙◌, if◌then◌else◌}
 use Rattle.std.specs.Prelude.{drop}
 use Rattle.sctp_model.specs.numbers.Numbers.{u32_at}
@@ -33,7 +33,7 @@ Counted P e t = Counts P e.receiver t.receiver
 still : {P : ReceiverView → ℕ → ResetMeaning → Type 0} (e t : EndView) → t.receiver ≡ e.receiver → Counted P e t
 still e t is = counts_same e.receiver t.receiver is
 
--- an end before an association has delivered nothing
+-- an endpoint before an association has delivered nothing
 nothing_handed : (e : EndView) → IsSound e → is_before e.phase ≡ true → (s : ℕ) → handed e.receiver s ≡ []
 nothing_handed e sound before s = ap (λ (r : ReceiverView). handed r s) (sound.bare before).receiver
 

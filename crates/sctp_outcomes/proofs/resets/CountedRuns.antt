@@ -31,9 +31,9 @@ use Rattle.sctp_outcomes.proofs.logs.Heard.{moment_keeps}
 use Rattle.sctp_outcomes.proofs.resets.Counted.{IsPerformed, Counts, counts_among}
 use Rattle.sctp_outcomes.proofs.resets.CountedEnds.{arrives_count}
 
--- ---- a receiver to which no packet comes
+-- ---- a receiver at which no packet arrives
 
--- what is told was told before, and no fewer messages are delivered
+-- what is reported was reported before, and no fewer messages are delivered
 record IsStill (r t : ReceiverView) : Type 0 where
   grown : (s : ℕ) → length (handed r s) ≤ length (handed t s)
   told : (s n : ℕ) → t.resets.told s ≡ Some n → r.resets.told s ≡ Some n
@@ -66,7 +66,7 @@ takes r m (Some h) t (rest, waits, is) = subst (IsStill r) (sym is) (record { gr
             omega (arith, x, y, z, u, v)
         go false at = omega arith
 
--- the user is told of a stream
+-- a stream is reported to the user
 tells : (r : ReceiverView) (m : ℕ) → IsStill r (told_of r m)
 tells r m = record { grown = λ s. omega arith; told = λ s n here. go s n (s == m) here }
   where

@@ -26,7 +26,7 @@ forwards f r x = forward_step f r (cumulative r 9) x
 abbrev texts : List Handed → List (List ℕ)
 texts hs = map (λ h. h.bytes) hs
 
--- ---- three messages of one TSN each, of which the second alone comes
+-- ---- three messages of one TSN each, of which the second alone arrives
 
 -- all three went out, with the TSNs 1, 2 and 3
 abbrev three : SenderView
@@ -35,18 +35,18 @@ three = (fill Plain 200 (asks (asks (asks (fresh_sender 1 1 4 100 true) 0 0 (10 
 abbrev second_came : ReceiverView
 second_came = takes Plain (fresh_receiver 1 1 100) (piece false true true 2 0 1 0 (20 ∷ []))
 
--- no SACK came back, and all three are abandoned: one FORWARD to 3 names SSN 2
+-- no SACK was returned, and all three are abandoned: one FORWARD to 3 names SSN 2
 abbrev all_three : SenderView
 all_three = abandon_after (abandon_after (abandon_after three 1) 2) 3
 
 one_forward : forward_chunk_of Plain 1500 all_three ≡ ForwardTsn (names_one 3 0 2)
 one_forward = refl
 
--- the second message is handed over all the same, and number 3 is next
+-- the second message is delivered all the same, and number 3 is next
 one_arrives : (texts ((forwards Plain second_came (forward_said Plain all_three (point all_three))).waiting 0) ≡ (20 ∷ []) ∷ []) × ((forwards Plain second_came (forward_said Plain all_three (point all_three))).next 0 ≡ 3)
 one_arrives = (refl, refl)
 
--- the SACK came back, and the first and the third are abandoned: the first FORWARD goes to 1 and names SSN 0
+-- the SACK was returned, and the first and the third are abandoned: the first FORWARD goes to 1 and names SSN 0
 abbrev two_of_three : SenderView
 two_of_three = abandon_after (abandon_after (sack_after three (sack 0 100 (block 2 2 ∷ []))) 1) 3
 
@@ -78,12 +78,12 @@ told_apart : (map (acknowledged closed) (1 ∷ 2 ∷ 3 ∷ []) ≡ false ∷ tru
     × (drained answered ∷ unsettled answered ∷ [] ≡ false ∷ true ∷ []) × (drained closed ∷ unsettled closed ∷ [] ≡ true ∷ false ∷ [])
 told_apart = (refl, refl, refl, refl)
 
--- ---- one message that comes late, when it was abandoned and before its FORWARD
+-- ---- one message that arrives late, when it was abandoned and before its FORWARD
 
 abbrev late : SenderView
 late = abandon_after (fill Plain 200 (asks (fresh_sender 1 1 4 100 true) 0 0 (10 ∷ []))).view 1
 
--- it is handed over, and the FORWARD that names it is out of date
+-- it is delivered, and the FORWARD that names it is out of date
 abbrev late_came : ReceiverView
 late_came = takes Plain (fresh_receiver 1 1 100) (piece false true true 1 0 0 0 (10 ∷ []))
 
@@ -115,7 +115,7 @@ two_came = takes Interleaved (takes Interleaved (fresh_receiver 1 1 100) (piece 
 end_arrives : ((forwards Interleaved two_came (forward_said Interleaved ended (point ended))).kept ≡ []) × ((forwards Interleaved two_came (forward_said Interleaved ended (point ended))).next 0 ≡ 1)
 end_arrives = (refl, refl)
 
--- which the next message has, behind the end mark
+-- which the next message has, after the end mark
 next_has_one : chunks Interleaved (fill Interleaved 200 (asks ended 0 7 (13 ∷ []))).wishes ≡ IData (piece false true true 4 0 1 7 (13 ∷ [])) ∷ []
 next_has_one = refl
 
@@ -153,7 +153,7 @@ reliable = record some { partial = false }
 reliable_answers : (map (abandon_answer reliable) (1 ∷ 2 ∷ 3 ∷ []) ≡ Acknowledged ∷ Reliable ∷ Withdrawn ∷ []) × (abandon_after reliable 2 ≡ reliable)
 reliable_answers = (refl, refl)
 
--- ---- what is past its time: at its moment, and not before
+-- ---- what is past its time: at its time, and not before
 
 abbrev timed : SenderView
 timed = queued (fill Plain 200 (queued (fresh_sender 1 1 4 100 true) (ordered_lane 0) 0 (1 ∷ []) (Some 500) None)).view (ordered_lane 0) 0 (2 ∷ []) (Some 400) None
@@ -163,18 +163,18 @@ at_its_moment = (refl, refl, refl, refl)
 
 -- ---- what may go again once
 
--- a message of two fragments with a limit of one repeat, and one without behind it; all went out
+-- a message of two fragments with a limit of one repeat, and one without after it; all went out
 abbrev once : SenderView
 once = (fill Plain 200 (asks (queued (fresh_sender 1 1 4 100 true) (ordered_lane 0) 0 (1 ∷ 2 ∷ 3 ∷ 4 ∷ 5 ∷ []) None (Some 1)) 0 0 (6 ∷ []))).view
 
--- the data timer expires: nothing is worn yet, and all three are marked; of a packet with room for two fragments' chunks two go again
+-- the data timer expires: nothing is worn yet, and all three are marked; of a packet with space for two fragments' chunks two go again
 abbrev twice : SenderView
 twice = (fill Plain 40 (timed_out (worn (λ i. true) once))).view
 
 twice_is : ((worn (λ i. true) once) ≡ once) × (map (λ i. twice.repeats i) (1 ∷ 2 ∷ 3 ∷ []) ≡ 1 ∷ 1 ∷ 0 ∷ []) × (map (λ i. twice.marked i) (1 ∷ 2 ∷ 3 ∷ []) ≡ false ∷ false ∷ true ∷ [])
 twice_is = (refl, refl, refl)
 
--- it expires again: the first message is abandoned, the other stays marked; where nothing may be abandoned, all are repeated
+-- it expires again: the first message is abandoned, the other stays marked; if nothing may be abandoned, all are repeated
 worn_is : (map (abandoned (worn (λ i. true) twice)) (1 ∷ 2 ∷ []) ≡ true ∷ false ∷ []) × (indexes (fill Plain 200 (timed_out (worn (λ i. true) twice))).wishes ≡ 3 ∷ [])
     × (indexes (fill Plain 200 (timed_out (worn (λ i. true) (record twice { partial = false })))).wishes ≡ 1 ∷ 2 ∷ 3 ∷ []) × (point (worn (λ i. true) twice) ≡ 2)
 worn_is = (refl, refl, refl, refl)

@@ -1,4 +1,5 @@
--- Endpoints, computed: what is abandoned at the end of a packet, the round trip of the handshake, endpoints that aren't opened together, a cookie that says reset.
+-- Endpoints, computed: what is abandoned at the end of a packet, the round trip of the handshake, endpoints that aren't opened together, a cookie that says
+-- reset.
 use Rattle.std.proofs.Common.{◌≡◌, ℕ, true, false, Bool, [], ◌∷◌, Option, Some, None, refl}
 use Rattle.std.specs.Prelude.{option_map}
 use Rattle.sctp_model.specs.sender.Readers.{point, abandoned}

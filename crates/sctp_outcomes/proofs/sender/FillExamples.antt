@@ -1,4 +1,4 @@
--- FILL, computed: what each chunk says under both formats, whose turn it is, and what room and window hold back.
+-- FILL, computed: what each chunk says under both formats, whose turn it is, and what space and window hold back.
 use Rattle.std.proofs.Common.{◌≡◌, ℕ, true, false, [], ◌∷◌, length, map, refl}
 use Rattle.sctp_model.specs.messages.Format.{Format, Plain, Interleaved, ordered_lane, unordered_lane}
 use Rattle.sctp_model.specs.wire.Chunk.{Data, IData}
@@ -60,13 +60,13 @@ one_stream = asks (asks_unordered (asks (fresh_sender 1 3 4 100 true) 2 0 (1 ∷
 one_at_a_time : (fill Interleaved 200 one_stream).view.plan.entries ≡ Part (ordered_lane 2) 0 0 ∷ Part (ordered_lane 2) 0 1 ∷ Part (unordered_lane 2) 0 0 ∷ Part (ordered_lane 2) 1 0 ∷ []
 one_at_a_time = refl
 
--- ---- room
+-- ---- space
 
--- a chunk takes 20 bytes; where not even one fits, no message takes a number
+-- a chunk takes 20 bytes; if not even one fits, no message takes a number
 too_little : ((fill Plain 19 asked).wishes ≡ []) × ((fill Plain 19 asked).view ≡ asked)
 too_little = (refl, refl)
 
--- where one fits, all three fragments take their indexes and the first goes; the others come first in the next packet
+-- if one fits, all three fragments take their indexes and the first goes; the others are first in the next packet
 abbrev one_went : SenderView
 one_went = (fill Plain 39 asked).view
 
@@ -76,7 +76,7 @@ one_goes = (refl, refl, refl)
 
 -- ---- the peer's window
 
--- a message of 16 bytes in four fragments, against a window of so many bytes
+-- a message of 16 bytes in four fragments, against a window of this many bytes
 abbrev sixteen : (rwnd : ℕ) → SenderView
 sixteen rwnd = asks (fresh_sender 1 1 4 rwnd true) 0 0 (1 ∷ 2 ∷ 3 ∷ 4 ∷ 5 ∷ 6 ∷ 7 ∷ 8 ∷ 9 ∷ 10 ∷ 11 ∷ 12 ∷ 13 ∷ 14 ∷ 15 ∷ 16 ∷ [])
 
@@ -84,14 +84,14 @@ sixteen rwnd = asks (fresh_sender 1 1 4 rwnd true) 0 0 (1 ∷ 2 ∷ 3 ∷ 4 ∷ 
 abbrev many : Format → (rwnd : ℕ) → ℕ
 many f rwnd = length (fill f 200 (sixteen rwnd)).wishes
 
--- all of it into a window of 16 bytes; a byte less holds back the last one; where nothing is in flight one goes whatever the window is
+-- all of it into a window of 16 bytes; a byte less holds back the last one; if nothing is in flight one goes whatever the window is
 window_holds : map (many Plain) (16 ∷ 15 ∷ 12 ∷ 4 ∷ 0 ∷ []) ≡ 4 ∷ 3 ∷ 3 ∷ 1 ∷ 1 ∷ []
 window_holds = refl
 
 window_holds_alike : map (many Interleaved) (16 ∷ 15 ∷ 12 ∷ 4 ∷ 0 ∷ []) ≡ 4 ∷ 3 ∷ 3 ∷ 1 ∷ 1 ∷ []
 window_holds_alike = refl
 
--- repeats aren't held back: the first chunk came, the window is shut, and the timer expires
+-- repeats aren't held back: the first chunk arrived, the window is shut, and the timer expires
 abbrev shut : SenderView
 shut = timed_out (sack_after (fill Plain 200 (sixteen 16)).view (sack 1 0 []))
 

@@ -14,7 +14,7 @@ asks v s payload bytes = queued v (ordered_lane s) payload bytes None None
 abbrev pub asks_unordered : SenderView → (stream payload : ℕ) → (bytes : List ℕ) → SenderView
 asks_unordered v s payload bytes = queued v (unordered_lane s) payload bytes None None
 
--- a piece by its flags U, B and E; the flag I is 0
+-- a data chunk by its flags U, B and E; the flag I is 0
 abbrev pub piece : (unordered begin end : Bool) → (tsn stream number word : ℕ) → (bytes : List ℕ) → PieceMeaning
 piece u b e tsn stream number word bytes = record {
   immediate = false;

@@ -1,4 +1,4 @@
--- The pace of an end, computed: round trips, misses, Fast Recovery, windows, bursts, the packet that goes at once.
+-- The pace of an endpoint, computed: round trips, misses, Fast Recovery, windows, bursts, the packet that goes at once.
 use Rattle.std.proofs.Common.{◌≡◌, ℕ, true, false, Bool, List, [], ◌∷◌, map, length, Option, Some, None, refl}
 use Rattle.sctp_model.specs.messages.Format.{Plain, ordered_lane}
 use Rattle.sctp_model.specs.wire.Chunk.{BlockMeaning}
@@ -44,12 +44,12 @@ of_window cwnd ssthresh acked = record { size = 1000; cwnd = cwnd; ssthresh = ss
 abbrev grows : (cwnd ssthresh acked flight bytes : ℕ) → List ℕ
 grows cwnd ssthresh acked flight bytes = let k = grown flight bytes (of_window cwnd ssthresh acked) in k.cwnd ∷ k.acked ∷ []
 
--- slow start: by what was acknowledged, by a packet at most, and not where the window wasn't in use; at ssthresh still
+-- slow start: by what was acknowledged, by a packet at most, and not if the window wasn't in use; at ssthresh still
 slow_start : grows 4000 9000 0 4000 500 ∷ grows 4000 9000 0 5200 2400 ∷ grows 4000 9000 0 3999 2400 ∷ grows 9000 9000 0 9000 1000 ∷ []
     ≡ (4500 ∷ 0 ∷ []) ∷ (5000 ∷ 0 ∷ []) ∷ (4000 ∷ 0 ∷ []) ∷ (10000 ∷ 0 ∷ []) ∷ []
 slow_start = refl
 
--- behind it: a packet for each window; where it wasn't in use no more than one window is counted
+-- after it: a packet for each window; if it wasn't in use no more than one window is counted
 avoidance : grows 5000 4000 2000 5000 2999 ∷ grows 5000 4000 2000 5000 3001 ∷ grows 5000 4000 2000 4999 2999 ∷ grows 5000 4000 4000 4999 3000 ∷ []
     ≡ (5000 ∷ 4999 ∷ []) ∷ (6000 ∷ 1 ∷ []) ∷ (5000 ∷ 4999 ∷ []) ∷ (5000 ∷ 5000 ∷ []) ∷ []
 avoidance = refl
@@ -75,7 +75,7 @@ lets = (refl, refl, refl, refl, refl)
 
 -- ---- misses (7.2.4)
 
--- the three largest, in whatever order they come; the third miss comes to what lies below the third of them, and to nothing at two
+-- the three largest, in whatever order they come; what lies below the third of them has its third miss, and at two nothing has
 thirds : (map (is_missed (noticed 4 (noticed 3 (noticed 2 fresh_misses)))) (1 ∷ 2 ∷ []) ≡ true ∷ false ∷ [])
     × (is_missed (noticed 3 (noticed 2 fresh_misses)) 1 ≡ false)
     × ((noticed 6 (noticed 9 (noticed 5 (noticed 7 fresh_misses)))).third ≡ 6)
@@ -85,7 +85,7 @@ thirds = (refl, refl, refl)
 abbrev asked : SenderView
 asked = asks (fresh_sender 1 1 4 100 true) 0 0 (1 ∷ 2 ∷ 3 ∷ 4 ∷ 5 ∷ 6 ∷ 7 ∷ 8 ∷ 9 ∷ 10 ∷ 11 ∷ 12 ∷ 13 ∷ 14 ∷ 15 ∷ 16 ∷ 17 ∷ 18 ∷ 19 ∷ 20 ∷ [])
 
--- the first went out at the moment 0, in a packet of its own, the others at 1
+-- the first went out at time 0, in a packet of its own, the others at 1
 abbrev first : Fill
 first = fill Plain 20 asked
 
@@ -146,7 +146,7 @@ done = heard 90 resent (sack_after resent (sack 5 100 [])) four.pace
 over : (done.pace.misses.exit ≡ None) × (done.trip ≡ None) × (wait_heard 0 2000 done ≡ 1000)
 over = (refl, refl, refl)
 
--- what neither moves CUM nor tells a trip leaves it as it is, a doubled one too
+-- what neither moves CUM nor measures a trip leaves it as it is, a doubled one too
 stays_doubled : (one.moved ≡ false) × (one.trip ≡ None) × (wait_heard 0 2000 one ≡ 2000) × (wait_heard 0 2000 four ≡ 2000)
 stays_doubled = (refl, refl, refl, refl)
 
@@ -223,7 +223,7 @@ given_up = (refl, refl)
 abbrev clean : Heard
 clean = heard 40 filled.view (sack_after filled.view (sack 2 100 [])) paced
 
--- the one behind it tells no trip, but moves CUM: a doubled wait goes back to the one measured
+-- the one after it measures no trip, but moves CUM: a doubled wait goes back to the one measured
 abbrev later : Heard
 later = heard 45 clean.sender (sack_after clean.sender (sack 3 100 [])) clean.pace
 
@@ -234,7 +234,7 @@ no_trip = (refl, refl, refl, refl, refl)
 measures : (clean.trip ≡ Some 40) × (clean.pace.trips.smoothed ≡ Some (record { eight = 320; four = 80 })) × (wait_heard 0 2000 clean ≡ 120) × (clean.anew ≡ true)
 measures = (refl, refl, refl, refl)
 
--- behind an expiry misses are counted anew, and nothing is timed
+-- after an expiry misses are counted anew, and nothing is timed
 expires : ((expired_pace three.pace).misses ≡ fresh_misses) × ((expired_pace one.pace).trips.timed ≡ None)
 expires = (refl, refl)
 
@@ -264,7 +264,7 @@ worn_two = takes 51 worn_one.sender worn_one.pace (block 2 3 ∷ [])
 abbrev pub worn_three : Heard
 worn_three = takes 52 worn_two.sender worn_two.pace (block 2 4 ∷ [])
 
--- three misses tell of a loss, and mark nothing: the timer begins anew, as a FORWARD goes out in place of the first once its message is abandoned
+-- three misses report a loss, and mark nothing: the timer begins anew, as a FORWARD goes out in place of the first once its message is abandoned
 marks_none : (map worn_three.sender.marked (1 ∷ 2 ∷ 3 ∷ 4 ∷ 5 ∷ []) ≡ false ∷ false ∷ false ∷ false ∷ false ∷ []) × (worn_three.pace.misses.exit ≡ Some 5) × (worn_three.anew ≡ true)
     × (in_flight worn_three.sender ≡ 8)
 marks_none = (refl, refl, refl, refl)

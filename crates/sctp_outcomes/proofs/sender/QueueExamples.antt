@@ -36,7 +36,7 @@ many_fragments bytes long = rw (length-cut 4 bytes) (rw long refl)
 abbrev full : List Queued → SenderView
 full qs = record fresh { queue = qs; tickets = 18446744073709551615 }
 
--- each reason counts before those behind it
+-- each reason counts before those after it
 order : (qs : List Queued) (long : List ℕ) → length qs ≡ 1024 → length long ≡ 65537
     → refusal (full qs) 1 [] ∷ refusal (full qs) 1 long ∷ refusal (full qs) 0 [] ∷ refusal (full qs) 0 long ∷ refusal (full qs) 0 (1 ∷ []) ∷ refusal (full []) 0 (1 ∷ []) ∷ []
     ≡ Some NoSuchStream ∷ Some NoSuchStream ∷ Some Empty ∷ Some TooLong ∷ Some QueueFull ∷ Some Spent ∷ []
@@ -65,7 +65,7 @@ begun = Part (ordered_lane 0) 0 0
 abbrev two_wait : Queued
 two_wait = record { lane = ordered_lane 0; message = record { ticket = 2; payload = 0; fragments = (1 ∷ []) ∷ (2 ∷ []) ∷ []; until = None; limit = None } }
 
--- before it so many indexes were assigned
+-- before it this many indexes were assigned
 abbrev busy : List Entry → SenderView
 busy es = record fresh { plan = record { messages = λ l. three ∷ []; entries = es ++ begun ∷ [] }; queue = two_wait ∷ [] }
 

@@ -1,4 +1,4 @@
--- A sender tells why a message is refused, and accepts any other, as the relations say.
+-- A sender reports why a message is refused, and accepts any other, as the relations say.
 use Rattle.std.proofs.Common.{◌≡◌, ℕ, zero, suc, ◌+◌, ◌<◌, ◌≤◌, ◌⊎◌, inl, inr, Bool, true, false, ◌||◌, ◌==◌, List, [], ◌∷◌, length, Option, Some, None, refl, sym, subst, arith, not}
 use Rattle.std.specs.Prelude.{nat_lt, nat_le}
 use Rattle.std.proofs.lemmas.Bool.{or_parts, or_left, or_right}

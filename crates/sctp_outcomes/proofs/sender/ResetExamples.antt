@@ -1,4 +1,4 @@
--- Streams that are reset, computed: when it is asked for, what is said, what is answered, and from where numbers are counted behind it.
+-- Streams that are reset, computed: when it is asked for, what is said, what is answered, and from where numbers are counted after it.
 use Rattle.std.proofs.Common.{◌≡◌, ℕ, true, false, List, [], ◌∷◌, Some, None, refl}
 use Rattle.sctp_model.specs.messages.Format.{Plain, ordered_lane}
 use Rattle.sctp_model.specs.wire.Typed.{written_typed}
@@ -44,7 +44,7 @@ request = refl
 said : request_said asks (record { first = 1; last = 1; streams = 0 ∷ [] }) ≡ record { number = 1; last = 1; streams = 0 ∷ [] }
 said = refl
 
--- in bytes, where the peer's initial TSN is 1 and it has asked for nothing
+-- in bytes, if the peer's initial TSN is 1 and it has asked for nothing
 bytes : written_typed (reset_item 0 (request_said asks (record { first = 1; last = 1; streams = 0 ∷ [] })) ∷ []) ≡ 0 ∷ 13 ∷ 0 ∷ 18 ∷ 0 ∷ 0 ∷ 0 ∷ 1 ∷ 0 ∷ 0 ∷ 0 ∷ 0 ∷ 0 ∷ 0 ∷ 0 ∷ 1 ∷ 0 ∷ 0 ∷ []
 unfolding u16_bytes u32_bytes u16_at u32_at
 bytes = refl
@@ -75,7 +75,7 @@ fresh = fresh_receiver 1 2 65536
 abbrev of : (number last : ℕ) → List ℕ → ResetMeaning
 of number last streams = record { number = number; last = last; streams = streams }
 
--- done where all up to its last TSN came; in progress before; a stream that isn't there
+-- done if all up to its last TSN arrived; in progress before; a stream that isn't there
 answers : reset_answer fresh 1 (of 1 1 (0 ∷ [])) ∷ reset_answer fresh 0 (of 1 1 (0 ∷ [])) ∷ reset_answer fresh 1 (of 1 1 (9 ∷ [])) ∷ [] ≡ Performed ∷ InProgress ∷ WrongStream ∷ []
 answers = refl
 
@@ -83,12 +83,13 @@ answers = refl
 in_turn : answer_in_turn fresh 1 Performed ∷ answer_in_turn fresh 7 Performed ∷ [] ≡ Performed ∷ BadNumber ∷ []
 in_turn = refl
 
--- performed: the number is taken, the user is to be told, and the same one again gets the same answer; in progress: the same one is looked at afresh
+-- performed: the number is taken, it is to be reported to the user, and the same one again gets the same answer; in progress: the same one is looked at
+-- afresh
 taken : ((reset_taken fresh 1 (of 1 1 (0 ∷ []))).resets.taken ≡ 1) × ((reset_taken fresh 1 (of 1 1 (0 ∷ []))).resets.told 0 ≡ Some 0) × ((reset_taken fresh 1 (of 1 1 (0 ∷ []))).resets.told 1 ≡ None) × (answer_in_turn (reset_taken fresh 1 (of 1 1 (0 ∷ []))) 1 InProgress ≡ Performed) × (answer_in_turn (reset_taken fresh 0 (of 1 1 (0 ∷ []))) 1 Performed ≡ Performed)
 taken = (refl, refl, refl, refl, refl)
 
--- three were handed over before it, of which the user took one: it is told of two; once it took another, and one more came, of one; of those that come behind it
--- none counts; the next request counts them all
+-- three were delivered before it, of which the user took one: two are reported to it; once it took another, and one more arrived, one; of those that arrive
+-- after it none counts; the next request counts them all
 abbrev message : Handed
 message = record { first = 1; lane = ordered_lane 0; number = Some 0; payload = 0; bytes = [] }
 

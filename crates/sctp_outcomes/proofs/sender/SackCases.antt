@@ -1,4 +1,4 @@
--- What is told of a SACK and of a SHUTDOWN is what they say: their index, their faults, and what they cover.
+-- What is reported of a SACK and of a SHUTDOWN is what they say: their index, their faults, and what they cover.
 use Rattle.std.proofs.Common.{◌≡◌, ℕ, ◌+◌, ◌^◌, ◌<◌, ◌≤◌, ◌⊎◌, ◌↔◌, inl, inr, Bool, true, false, not, ◌&&◌, ◌||◌, List, [], ◌∷◌, length, refl, sym, subst, arith}
 use Rattle.std.specs.Prelude.{nat_lt, nat_le}
 use Rattle.std.proofs.lemmas.Bool.{and_parts, and_from, or_parts, or_from, or_left, or_right}
@@ -136,7 +136,7 @@ covers_is c blocks i = (forth, back)
           | inr r ↦ or_right (nat_le i c) (in_blocks c blocks i) (is_in_blocks c blocks i r.0 r.1 r.2 r.3)
         ]
 
--- a mark stays where it was, and isn't covered
+-- a mark stays if it was, and isn't covered
 pub mark_stays : (marked covered : Bool) → ((marked && not covered) ≡ true) ↔ ((marked ≡ true) × (covered ≡ true → ⊥))
 mark_stays true true = (λ is. absurd (cc), λ is. absurd (is.1 refl))
 mark_stays true false = (λ is. (refl, λ on. absurd (cc)), λ is. refl)

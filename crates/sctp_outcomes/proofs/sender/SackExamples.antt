@@ -23,7 +23,7 @@ faults : fault_of 4294967293 [] ∷ fault_of 4294967292 (block 0 9 ∷ []) ∷ f
     ≡ None ∷ Some Stale ∷ None ∷ Some Beyond ∷ None ∷ Some Beyond ∷ []
 faults = refl
 
--- a block begins behind the cumulative index and behind the block before it, and doesn't end before it begins; blocks may touch
+-- a block begins after the cumulative index and after the block before it, and doesn't end before it begins; blocks may touch
 bad_blocks : fault_of 4294967293 (block 0 1 ∷ []) ∷ fault_of 4294967293 (block 3 2 ∷ []) ∷ fault_of 4294967293 (block 2 3 ∷ block 3 4 ∷ []) ∷ fault_of 4294967293 (block 2 3 ∷ block 4 4 ∷ []) ∷ []
     ≡ Some BadBlock ∷ Some BadBlock ∷ Some BadBlock ∷ None ∷ []
 bad_blocks = refl

@@ -1,4 +1,4 @@
--- A sender tells the fault of a SACK or SHUTDOWN that has one, and takes any other, as the relations say.
+-- A sender reports the fault of a SACK or SHUTDOWN that has one, and takes any other, as the relations say.
 use Rattle.std.proofs.Common.{◌≡◌, ℕ, ◌+◌, ◌-◌, ◌^◌, ◌<◌, ◌≤◌, ◌⊎◌, inl, inr, Bool, true, false, ◌||◌, [], ◌∷◌, length, Option, Some, None, refl, sym, subst, arith}
 use Rattle.std.specs.Prelude.{nat_lt, nat_le}
 use Rattle.std.proofs.lemmas.Bool.{or_parts, or_left, or_right}
@@ -52,7 +52,7 @@ none_told false true m is = absurd (cc)
 none_told false false true is = absurd (cc)
 none_told false false false is = record { old = refl; far = refl; mixed = refl }
 
--- what is not so is told
+-- what is not so has the test false
 off_of : (b : Bool) → (b ≡ true → ⊥) → b ≡ false
 off_of true not_so = absurd (not_so refl)
 off_of false not_so = refl

@@ -42,11 +42,11 @@ waits rwnd xs = record (fresh_sender 1 1 1400 rwnd true) {
   tickets = 1;
 }
 
--- so many go of them, into a room that takes them all
+-- this many go of them, into a space that takes them all
 abbrev many : (rwnd : ℕ) → List (List ℕ) → ℕ
 many rwnd xs = length (fill Plain 70000 (waits rwnd xs)).wishes
 
--- so many go of a message
+-- this many go of a message
 abbrev go : (rwnd : ℕ) → List ℕ → ℕ
 go rwnd bytes = length (fill Plain 70000 (asks (fresh_sender 1 1 1400 rwnd true) 0 0 bytes)).wishes
 

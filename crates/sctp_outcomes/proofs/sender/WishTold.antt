@@ -103,7 +103,7 @@ next_index_is_computed Interleaved v u = (λ is. forth (sym (turns_are v) ∙ is
 
 -- ---- among the indexes assigned
 
--- what a test tells is so, both ways
+-- what a test says is so, both ways
 abbrev Tells : (ℕ → Bool) → (ℕ → Type 0) → Type 0
 Tells test IsSo = ((i : ℕ) → test i ≡ true → IsSo i) × ((i : ℕ) → IsSo i → test i ≡ true)
 

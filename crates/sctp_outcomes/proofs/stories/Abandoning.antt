@@ -1,4 +1,4 @@
--- Under DATA a packet is lost, and its message abandoned: the FORWARD-TSN passes it over, and the next message is handed over.
+-- Under DATA a packet is lost, and its message abandoned: the FORWARD-TSN passes it over, and the next message is delivered.
 use Rattle.std.proofs.Common.{true, false, List, [], ◌∷◌, Option, Some, None, inl, inr, refl, arith}
 use Rattle.sctp_model.specs.numbers.Lists.{Has}
 use Rattle.sctp_model.specs.messages.Format.{Plain, ordered_lane}
@@ -44,7 +44,7 @@ p2 = with_packet (with_end p1 A (packet_built (end_now p1 A) 0).after) A (packet
 built_2 : Step p1 (Build A) (Some (Sent 1 (size_of_packet (Data first_piece ∷ [])))) p2
 built_2 = BuildsOne A (Data first_piece) [] (packet_built (end_now p1 A) 0).after (builds_are tags_a Established (end_now p1 A) 0 refl (bound_none p1.a.receiver refl))
 
--- the packet never comes
+-- the packet never arrives
 abbrev p3 : World
 p3 = after_abandon p2 1
 

@@ -1,4 +1,4 @@
--- What data, a FORWARD, a SACK and the chunks of closing do to an open end, computed.
+-- What data, a FORWARD, a SACK and the chunks of closing do to an open endpoint, computed.
 use Rattle.std.proofs.Common.{◌≡◌, ℕ, ◌<◌, ◌≤◌, ◌==◌, Bool, true, false, length, arith, subst}
 use Rattle.std.proofs.lemmas.Bool.{cond_both, eqb-true}
 use Rattle.sctp_model.specs.numbers.Lists.{at}
@@ -29,7 +29,7 @@ bound_more seen n bound le within i = cond_both (i == n) true (seen i) (λ (b : 
 
 -- ---- chunks
 
--- the end after a data chunk, and what is noted of that
+-- the endpoint after a data chunk, and what is noted of that
 abbrev pub after_data : EndView → (bound : ℕ) → PieceMeaning → EndView
 after_data e bound p =
     let c = cumulative e.receiver bound in
@@ -45,7 +45,7 @@ data_acts f e t g bound p within is hears some same =
     PieceComes t g (answer_to (format_of e) e.receiver c p) (piece_step (format_of e) e.receiver c p) is hears some same
     (piece_steps (format_of e) e.receiver c p (cumulative_is e.receiver bound within))
 
--- the end after a FORWARD that moves it
+-- the endpoint after a FORWARD that moves it
 abbrev pub after_skip : EndView → (bound : ℕ) → ForwardMeaning → EndView
 after_skip e bound m = record e { receiver = forward_step (format_of e) e.receiver (cumulative e.receiver bound) m }
 

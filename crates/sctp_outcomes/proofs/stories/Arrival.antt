@@ -1,4 +1,4 @@
--- A message on its way: two ends open by packets, one sends, the message arrives, is taken and acknowledged, and both ends close, each completed.
+-- A message on its way: two endpoints open by packets, one sends, the message arrives, is taken and acknowledged, and both endpoints close, each completed.
 use Rattle.std.proofs.Common.{◌≡◌, ℕ, ◌≤◌, true, false, List, [], ◌∷◌, ◌++◌, Option, Some, None, inl, inr, refl, arith}
 use Rattle.sctp_model.specs.numbers.Numbers.{u16_bytes, u32_bytes, u16_at, u32_at}
 use Rattle.sctp_model.specs.wire.Typed.{starts_typed, typed_of}
@@ -55,7 +55,7 @@ step_11 : Step w10 (Build A) (Some (Sent 3 (size_of_packet (IData piece ∷ []))
 unfolding u16_bytes u32_bytes u16_at u32_at starts_typed typed_of
 step_11 = BuildsOne A (IData piece) [] (packet_built (end_now w10 A) 0).after (builds_are tags_a Established (end_now w10 A) 0 refl (bound_none w10.a.receiver refl))
 
--- it comes to B, and waits for B's user
+-- it arrives at B, and waits for B's user
 abbrev e12 : EndView
 e12 = after_data (end_now w11 B) 0 piece
 

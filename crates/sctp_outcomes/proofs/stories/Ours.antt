@@ -1,4 +1,4 @@
--- A run of events of the two ends alone meets the premises.
+-- A run of events of the two endpoints alone meets the premises.
 use Rattle.std.proofs.Common.{◌≡◌, ◌&&◌, Bool, true, false, List, [], ◌∷◌, ◌++◌, Option, Some, inl, inr, subst}
 use Rattle.std.proofs.lemmas.Bool.{and_parts}
 use Rattle.sctp_model.specs.numbers.Lists.{Has}
@@ -9,7 +9,7 @@ use Rattle.sctp_model.specs.world.Events.{Event, OpenBoth, Foreign, Outcome}
 use Rattle.sctp_model.specs.world.Steps.{Run, Rest, Then}
 use Rattle.sctp_model.specs.world.Premises.{FreshAndUnforged}
 
--- not a stranger's packet, and not `open`
+-- not a third party's packet, and not `open`
 abbrev pub is_ours : Event → Bool
 is_ours (Foreign x p) = false
 is_ours e = true
@@ -33,7 +33,7 @@ premises_of_ours s es all x p has = absurd (let q : false ≡ true = each_of is_
 pub opened_by_packets : (es : List Event) → are_all is_by_packets es ≡ true → (x y : Draw) → Has es (OpenBoth x y) → ⊥
 opened_by_packets es all x y has = let q : false ≡ true = each_of is_by_packets es (OpenBoth x y) all has in cc
 
--- ---- one run behind another
+-- ---- one run after another
 
 pub run_on : (u v w : World) (es fs : List Event) (os ps : List (Option Outcome)) → Run u es os v → Run v fs ps w → Run u (es ++ fs) (os ++ ps) w
 run_on u v w es fs os ps (Rest _) b = b

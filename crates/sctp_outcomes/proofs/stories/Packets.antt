@@ -1,4 +1,4 @@
--- The packet that an open end builds, computed: what is due at each place, in their order, and then fragments.
+-- The packet that an open endpoint builds, computed: what is due at each place, in their order, and then fragments.
 use Rattle.std.proofs.Common.{◌≡◌, ℕ, Bool, true, false, List, [], ◌∷◌, ◌++◌, Option, Some, None, refl, if◌then◌else◌, sym, subst}
 use Rattle.sctp_model.specs.numbers.Serial.{tsn}
 use Rattle.sctp_model.specs.receiver.ResetTaken.{last_finished}
@@ -46,7 +46,7 @@ chunk_at RequestSlot e bound = request_chunk e e.sender.resets.pending
 chunk_at ShutdownSlot e bound = Shutdown (tsn e.receiver.initial (cumulative e.receiver bound))
 chunk_at ShutdownAckSlot e bound = ShutdownAck
 
--- a place of an open end's packet
+-- a place of an open endpoint's packet
 abbrev is_open_slot : Slot → Bool
 is_open_slot EchoSlot = false
 is_open_slot s = true
@@ -94,7 +94,7 @@ bound_after ShutdownAckSlot e bound within = within
 
 -- ---- all places
 
--- chunks so far, whether the packet is full, and the end that has built them
+-- chunks so far, whether the packet is full, and the endpoint that has built them
 pub record Built : Type 0 where
   pub chunks : List ChunkMeaning
   pub full : Bool
@@ -135,7 +135,7 @@ puts_are (s ∷ ss) bound e xs places within =
 
 -- ---- the packet
 
--- with fragments behind, unless the packet is full
+-- with fragments after that, unless the packet is full
 abbrev with_fragments : Built → Built
 with_fragments b =
     if b.full then b else record { chunks = b.chunks ++ fragments b.after b.chunks; full = false; after = sent b.after b.chunks }
@@ -143,7 +143,7 @@ with_fragments b =
 abbrev pub packet_built : EndView → (bound : ℕ) → Built
 packet_built e bound = with_fragments (built_over open_slots bound (asking e) [])
 
--- So much an open end builds.
+-- So much an open endpoint builds.
 pub builds_are : (t : Tags) (g : Stage) (e : EndView) (bound : ℕ) → e.phase ≡ Open t g → IsBound e.receiver bound →
     Builds e (packet_built e bound).chunks (packet_built e bound).after
 builds_are t g e bound is within = go (built_over open_slots bound (asking e) [])

@@ -1,4 +1,4 @@
--- The script's end, event by event: each packet comes twice, also where both ends are closed.
+-- The script's end, event by event: each packet arrives twice, also when both endpoints are closed.
 use Rattle.std.proofs.Common.{◌≡◌, ℕ, ◌≤◌, true, false, [], ◌∷◌, Some, refl, arith}
 use Rattle.sctp_model.specs.numbers.Numbers.{u16_bytes, u32_bytes, u16_at, u32_at}
 use Rattle.sctp_model.specs.wire.Typed.{starts_typed, typed_of}

@@ -60,7 +60,7 @@ s2 = with_packet (with_end s1 A (started InitAlarm (with_due (record (end_now s1
 abbrev s3 : World
 s3 = record s2 { draw = of_b }
 
--- it comes twice, and is answered twice
+-- it arrives twice, and is answered twice
 abbrev s4 : World
 s4 = with_verdict (came s3 B (end_now s3 B)) B (stray_verdict (end_now s3 B) of_b packet_1)
 

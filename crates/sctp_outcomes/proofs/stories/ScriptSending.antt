@@ -1,4 +1,4 @@
--- The script's message, event by event: each packet comes twice.
+-- The script's message, event by event: each packet arrives twice.
 use Rattle.std.proofs.Common.{◌≡◌, ℕ, ◌≤◌, true, false, [], ◌∷◌, Some, refl, arith}
 use Rattle.sctp_model.specs.numbers.Numbers.{u16_bytes, u32_bytes, u16_at, u32_at}
 use Rattle.sctp_model.specs.wire.Typed.{starts_typed, typed_of}
@@ -75,7 +75,7 @@ step_17 = PacketComes (Deliver A 3) B (Some packet_3) (acknowledges Established 
     (data_acts Plain (end_now s16 B) tags_b Established 1 piece one_recorded refl refl (omega arith) refl)
     (NoneLeft (rested e17) (noted (data_note (end_now s16 B) 1 piece) no_notes))) false (λ on. absurd (cc)) refl))
 
--- the SACK names the duplicate; the two bytes wait, and count against the room
+-- the SACK names the duplicate; the two bytes wait, and count against the buffer
 abbrev sack : SackMeaning
 sack = record { cumulative = 100; rwnd = 65534; blocks = []; duplicates = 100 ∷ [] }
 

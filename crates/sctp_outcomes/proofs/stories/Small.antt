@@ -1,4 +1,4 @@
--- Two ends that are opened without packets, set up for small packets: one full fragment in each.
+-- Two endpoints that are opened without packets, set up for small packets: one full fragment in each.
 use Rattle.std.proofs.Common.{ℕ, ◌≡◌, ◌<◌, ◌^◌, Bool, true, false, Some, refl, arith}
 use Rattle.sctp_model.specs.world.Calls.{Call}
 use Rattle.sctp_model.specs.end.EndView.{Draw, Tags, IsDraw}
@@ -11,7 +11,7 @@ use Rattle.sctp_model.specs.world.Steps.{accepted, named_at, Step, OpensBoth}
 use Rattle.sctp_safety.proofs.machine.OpeningWorlds.{open_seal}
 use Rattle.sctp_model.specs.numbers.Limits.{LEAST_WAIT}
 
--- ---- two ends without packets
+-- ---- two endpoints without packets
 
 -- small packets, each of one full fragment
 abbrev pub small : Bool → Setup
@@ -90,7 +90,7 @@ tags_b = record { own = 9; peer = 7 }
 drawn : (n t : ℕ) → 0 < n → n < 2 ^ 32 → t < 2 ^ 32 → IsDraw (record { tag = n; tsn = t })
 drawn n t some tag first = record { some = some; tag = tag; tsn = first }
 
--- opened, each told the other's draw
+-- opened, each with the other's random values
 abbrev pub open_world : Bool → World
 open_world i = record (start (small i)) {
   a = opened (configuration_of (small i) A) of_a of_b;

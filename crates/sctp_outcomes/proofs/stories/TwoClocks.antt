@@ -24,7 +24,7 @@ use Rattle.sctp_outcomes.proofs.stories.Ours.{premises_of_ours}
 
 -- ---- the worlds
 
--- an end is asked what is due at the time of its clock
+-- an endpoint is notified at the time of its clock
 abbrev after_moment : World → Side → World
 after_moment w s = with_log (with_end w s (ticked (end_of w s) (clock_of w s))) s (logged w s (ticked (end_of w s) (clock_of w s)))
 
@@ -52,7 +52,7 @@ p3 = with_packet (with_end p2 A (packet_built (end_now p2 A) 0).after) A packet
 built_3 : Step p2 (Build A) (Some (Sent 1 (size_of_packet (Data piece ∷ [])))) p3
 built_3 = BuildsOne A (Data piece) [] (packet_built (end_now p2 A) 0).after (builds_are tags_a Established (end_now p2 A) 0 refl (bound_none p2.a.receiver refl))
 
--- B hands in what arrived, and then asks what is due
+-- B hands in what arrived, and then notifies its endpoint of the time
 abbrev p4 : World
 p4 = with_clock p3 B 5
 

@@ -20,7 +20,7 @@ use Rattle.sctp_outcomes.proofs.users.Noted.{IsQuiet, quiet_packet, quiet_none}
 abbrev pub calls_of : List Sent → List Call
 calls_of ss = map (λ (s : Sent). s.call) ss
 
--- These messages were accepted at an end, these tickets named, and this time told.
+-- These messages were accepted at an endpoint, these tickets named, and this time given.
 pub record IsLogged (x : Side) (w v : World) (ss : List Sent) (ts : List ℕ) (now : ℕ) : Type 0 where
   pub calls : (log_of v x).calls ≡ (log_of w x).calls ++ calls_of ss
   pub named : (t : ℕ) → (log_of v x).named t ≡ true → ((log_of w x).named t ≡ true) ⊎ Has ts t
@@ -107,7 +107,7 @@ module _ (x : Side) where
   calm_abort w s t NoPeer = calm_end w s t
   calm_abort w s t TooLong = calm_end w s t
 
-  -- the log of one end alone changes
+  -- the log of one endpoint alone changes
   one_log : (w : World) (s : Side) (t : EndView) (l : Log) (ss : List Sent) (ts : List ℕ) → AddsTo (log_of w s) l ss ts
       → IsLogged x w (with_log (with_end w s t) s l) (if same_side s x then ss else []) (if same_side s x then ts else []) 0
   one_log w s t l ss ts a = go s x a
@@ -128,7 +128,7 @@ module _ (x : Side) where
   calm_log : (w : World) (s : Side) (t : EndView) (l : Log) → AddsTo (log_of w s) l [] [] → IsLogged x w (with_log (with_end w s t) s l) [] [] 0
   calm_log w s t l a = subst (λ (ss : List Sent). IsLogged x w (with_log (with_end w s t) s l) ss [] 0) (no_messages (same_side s x)) (no_ticket w s t l [] a)
 
-  -- the clock of one end goes on
+  -- the clock of one endpoint goes on
   clock_goes : (w : World) (s : Side) (m : ℕ) → IsLogged x w (with_clock w s m) [] [] (if same_side s x then m else 0)
   clock_goes w s m = go s x
     where
@@ -146,13 +146,13 @@ module _ (x : Side) where
   by_name : (w : World) (s : Side) (k : ℕ) (t : EndView) (a : AbandonAnswer) → IsLogged x w (with_log (with_end w s t) s (named_at (logged_one w s k t) a k)) [] (named_by x (Abandon s k) (Some (Fate a))) 0
   by_name w s k t a = no_message w s t (named_at (logged_one w s k t) a k) (given_by a k) (record { calls = sym (append-nil (log_of w s).calls); named = named_if (log_of w s) (gives_up a) k })
 
-  -- an event that shows nothing, where the time stays
+  -- an event that shows nothing, if the time stays
   quietly : (w v : World) (e : Event) (o : Option Outcome) → IsQuiet x 0 e o → time_by x e o ≡ 0 → IsLogged x w v [] [] 0 → IsLogged x w v (sent_by x e o) (named_by x e o) (time_by x e o)
   quietly w v e o q same h =
       subst (λ (k : ℕ). IsLogged x w v (sent_by x e o) (named_by x e o) k) (sym same)
       (subst (λ (ts : List ℕ). IsLogged x w v (sent_by x e o) ts 0) (sym q.named) (subst (λ (ss : List Sent). IsLogged x w v ss [] 0) (sym q.sent) h))
 
--- no packet tells the time
+-- no packet gives the time
 timeless : (x : Side) (w : World) (e : Event) (s : Side) (p : Option Packet) → Brings w e s p → (o : Option Outcome) → time_by x e o ≡ 0
 timeless x w e s p (FromBag _ _ _ _) o = refl
 timeless x w e s p (FromStranger _ _ _) o = refl

@@ -23,7 +23,7 @@ past_all (x ∷ xs) zero le = absurd (omega (arith, le))
 past_all (x ∷ xs) (suc k) le = past_all xs k (omega (arith, le))
 
 module _ (f : Format) (p : Plan) (orderly : Orderly f p) (l : Lane) (n : ℕ) where
-  -- fragments stand in rising index
+  -- fragments are in rising index
   rising : (d i j k : ℕ) → entry_at p i ≡ Some (Part l n k) → entry_at p j ≡ Some (Part l n (suc k + d)) → i < j
   rising zero i j k here there =
       let next : entry_at p j ≡ Some (Part l n (suc k)) = subst (λ (m : ℕ). entry_at p j ≡ Some (Part l n m)) (let same : suc k + 0 ≡ suc k = omega arith in same) there in

@@ -1,4 +1,4 @@
--- One direction of a world that is safe: each message that was handed over on a stream is matched with one that was sent.
+-- One direction of a world that is safe: each message that was delivered on a stream is matched with one that was sent.
 use Rattle.std.proofs.Common.{◌≡◌, ℕ, ◌<◌, ◌≤◌, ◌⊎◌, true, List, [], ◌∷◌, map, Option, Some, inl, inr, refl, sym, subst, ap, ◌∙◌, arith}
 use Rattle.std.proofs.lemmas.Bool.{cases_lt}
 use Rattle.sctp_model.specs.numbers.Lists.{Has, item_at, AreInOrder}
@@ -58,7 +58,7 @@ module _ (w : World) (x : Side) (n : ℕ) where
     pub clock : u.clock ≡ now
     pub closed : (y : Side) → (end_of w y).phase ≡ Over Completed → IsAllArrived a r × IsDrained a
 
-  -- a message that was handed over, and the one that was sent
+  -- a message that was delivered, and the one that was sent
   pub record Right (m : Match) : Type 0 where
     pub kind : Kind
     pub sent : IsSent a.plan (lane_for kind n) m.message
@@ -186,7 +186,7 @@ module _ (w : World) (x : Side) (n : ℕ) where
                 let equal : m.sent.ticket ≡ k.sent.ticket = omega (arith, ge, le) in
                 let no = (one_ticket m k q p equal).1 in absurd (omega (arith, no, numbers))
 
-    -- all that was handed over, match by match
+    -- all that was delivered, match by match
     pub record Built (hs : List Handed) : Type 0 where
       pub matches : List Match
       pub all : map (λ (m : Match). m.message) matches ≡ hs
@@ -222,7 +222,7 @@ module _ (w : World) (x : Side) (n : ℕ) where
     pub built : Built (handed r n)
     built = build (handed r n) (λ h has. has) (told.safe.once.apart n) (told.safe.in_order.rising n)
 
-    -- a message of the plan that was handed over is among them
+    -- a message of the plan that was delivered is among them
     pub delivered : (h : Handed) → Has (handed r n) h → (l : Lane) (k : ℕ) (m : Message) → message_at a.plan l k ≡ Some m → entry_at a.plan h.first ≡ Some (Part l k 0)
         → (s : Sent) → Has ss s → m.ticket ≡ s.ticket → IsDelivered built.matches s
     delivered h has l k m named first s accepted ticket =

@@ -1,4 +1,4 @@
--- What each event notes at an end: the messages that its user took from a stream, and how many tickets were given.
+-- What each event notes at an endpoint: the messages that its user took from a stream, and how many tickets were given.
 use Rattle.std.proofs.Common.{◌≡◌, ℕ, ◌+◌, max, Bool, true, false, List, [], ◌∷◌, ◌++◌, length, Option, Some, None, refl, sym, subst, ap, ◌∙◌, arith}
 use Rattle.std.specs.Prelude.{◌==◌, ◌&&◌, if◌then◌else◌}
 use Rattle.std.proofs.lemmas.Bool.Decides.{nat_tests}
@@ -32,13 +32,13 @@ pub record IsQuiet (x : Side) (n : ℕ) (e : Event) (o : Option Outcome) : Type 
   pub sent : sent_by x e o ≡ []
   pub named : named_by x e o ≡ []
 
--- so it is of a packet that comes
+-- so it is of a packet that arrives
 pub quiet_packet : (w : World) (e : Event) (s : Side) (p : Option Packet) → Brings w e s p → (x : Side) (n : ℕ) (o : Option Outcome) → IsQuiet x n e o
 quiet_packet w e s p (FromBag _ _ _ _) x n o = record { taken = refl; sent = refl; named = refl }
 quiet_packet w e s p (FromStranger _ _ _) x n o = record { taken = refl; sent = refl; named = refl }
 quiet_packet w e s p (NoPacket _) x n o = record { taken = refl; sent = refl; named = refl }
 
--- and where memory was wanted
+-- and if an allocation failed
 pub quiet_none : (e : Event) (x : Side) (n : ℕ) → IsQuiet x n e None
 quiet_none (OpenBoth a b) x n = record { taken = refl; sent = refl; named = refl }
 quiet_none (Later s m) x n = record { taken = refl; sent = refl; named = refl }
@@ -57,10 +57,10 @@ quiet_none (WasReset s) x n = record { taken = refl; sent = refl; named = refl }
 quiet_none (Shutdown s) x n = record { taken = refl; sent = refl; named = refl }
 quiet_none (Abort s r) x n = record { taken = refl; sent = refl; named = refl }
 
--- ---- an end
+-- ---- an endpoint
 
 module _ (n : ℕ) where
-  -- these messages were taken from the stream, and so many tickets given
+  -- these messages were taken from the stream, and this many tickets given
   pub record Notes (e t : EndView) (hs : List Handed) (k : ℕ) : Type 0 where
     pub taken : t.receiver.taken n ≡ e.receiver.taken n ++ hs
     pub tickets : t.sender.tickets ≡ k + e.sender.tickets
@@ -97,7 +97,7 @@ module _ (x : Side) (n : ℕ) where
   same_world : (w : World) → Noted w w [] 0
   same_world w = nothing n (end_of w x) (end_of w x) refl refl
 
-  -- one end acts, and its user is told nothing
+  -- one endpoint acts, and nothing is reported to its user
   at_one : (w v : World) (s : Side) (t : EndView) (given : Option Packet) → IsAt w v s t given → Notes n (end_of w s) t [] 0 → Noted w v [] 0
   at_one w v s t given at same =
       both_ends (λ (y : Side) (e : EndView). Notes n (end_of w y) e [] 0) w v s t given at (λ y. nothing n (end_of w y) (end_of w y) refl refl) same x
@@ -109,7 +109,7 @@ module _ (x : Side) (n : ℕ) where
       go A = a
       go B = b
 
-  -- a ticket is given at an end, and noted in its log
+  -- a ticket is given at an endpoint, and noted in its log
   gives_one : (w : World) (s : Side) (c : Call) (k : ℕ) (t : EndView) (l : Log) → t.receiver.taken ≡ (end_of w s).receiver.taken → t.sender.tickets ≡ 1 + (end_of w s).sender.tickets
       → Noted w (with_log (with_end w s t) s l) [] (length (sent_by x (Send s c) (Some (Told (Ticket k)))))
   gives_one w s c k t l taken tickets = go s x taken tickets
@@ -132,7 +132,7 @@ module _ (x : Side) (n : ℕ) where
   by_send w s c (Refused r) t l k = at_one w _ s t None (at_log w s t l) (by_logs n (end_of w s) t k)
   by_send w s c NotOpen t l k = at_one w _ s t None (at_log w s t l) (by_logs n (end_of w s) t k)
 
-  -- a message is taken at an end
+  -- a message is taken at an endpoint
   takes_one : (w : World) (s : Side) (m : ℕ) (h : Handed) (t : EndView) → t.receiver.taken ≡ at (end_of w s).receiver.taken m ((end_of w s).receiver.taken m ++ h ∷ []) → t.sender.tickets ≡ (end_of w s).sender.tickets
       → Noted w (with_end w s t) (if same_side s x && (n == m) then h ∷ [] else []) 0
   takes_one w s m h t is tickets = go s x is tickets

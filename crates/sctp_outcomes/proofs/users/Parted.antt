@@ -1,4 +1,4 @@
--- Over a run: what a user was told of resets, and how they part the messages.
+-- Over a run: what was reported to a user of resets, and how they part the messages.
 use Rattle.std.proofs.Common.{◌≡◌, ℕ, suc, ◌+◌, ◌≤◌, ◌⊎◌, ◌==◌, ◌&&◌, Bool, true, false, List, [], ◌∷◌, ◌++◌, length, length-append, Option, Some, None, inl, inr, refl, sym, subst, ap, ◌∙◌, arith, append-nil}
 use Rattle.std.specs.Prelude.{if◌then◌else◌}
 use Rattle.std.proofs.lemmas.Bool.Decides.{nat_tests}
@@ -108,7 +108,7 @@ module _ (s : Setup) (drawn : List ℕ) (within : (x : Side) → IsConfiguration
     pub upto : (y : Sent) → Has ss y → y.call.lane.stream ≡ n → y.ticket ≤ count
     pub given : count ≤ length ss
 
-  -- c messages had been handed over in a world in which a request for the stream waited
+  -- c messages had been delivered in a world in which a request for the stream waited
   pub record IsMarked (R : ℕ → Type 0) (c : ℕ) (w : World) : Type 0 where
     pub world : World
     pub met : IsMetWorld d world

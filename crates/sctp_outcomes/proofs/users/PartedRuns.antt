@@ -1,4 +1,4 @@
--- Over a whole run, each reset that a user is told of parts the messages of its stream.
+-- Over a whole run, each reset that is reported to a user parts the messages of its stream.
 use Rattle.std.proofs.Common.{◌≡◌, ◌⊎◌, ℕ, zero, suc, ◌-◌, ◌<◌, ◌≤◌, true, false, List, [], ◌∷◌, ◌++◌, length, map, take, drop, Option, Some, None, is_some, inl, inr, refl, sym, subst, ap, ◌∙◌, arith}
 use Rattle.std.specs.Prelude.{unwrap_or}
 use Rattle.sctp_model.specs.numbers.Lists.{Has}
@@ -109,7 +109,7 @@ kept_front d w [] more [] (v ∷ vs) beyond passes kept = absurd passes
 kept_front d w (e ∷ es) more [] vs beyond passes kept = absurd passes
 kept_front d w (e ∷ es) more (o ∷ os) [] beyond passes kept = absurd passes
 
--- ---- what is told of a reset
+-- ---- what is reported of a reset
 
 brings_none : (w : World) (e : Event) (z : Side) (p : Option Packet) → Brings w e z p → (y : Side) → e ≡ WasReset y → ⊥
 brings_none w e z p (FromBag _ _ _ _) y is = cc
@@ -294,7 +294,7 @@ module _ (s : Setup) (es : List Event) (os : List (Option Outcome)) (vs : List W
         (kept_front d (start s) t.past (WasReset (other x) ∷ t.later) t.answers h.first h.second h.passes kept_both)
         (λ e has. fine_both e (has_left t.past (WasReset (other x) ∷ t.later) e has))
 
-    -- what was told
+    -- what was reported
     tells : (v : List World) → PassesThrough at_told (WasReset (other x) ∷ t.later) (Some (ResetThere n t.waiting) ∷ t.others) v →
         (reset_there (end_of at_told (other x)) ≡ Some n) × (t.waiting ≡ old_waiting (end_of at_told (other x)).receiver n)
     tells (v ∷ more) (step, on) = step_tells at_told (WasReset (other x)) (Some (ResetThere n t.waiting)) v step (other x) n t.waiting refl refl

@@ -67,7 +67,7 @@ module _ (w : World) (x : Side) (n : ℕ) (ss : List Sent) (ts : List ℕ) (now 
   called : (s : Sent) → WasSent e s → item_at (u w x n).calls s.ticket ≡ Some s.call
   called s was = subst (λ (cs : List Call). item_at cs s.ticket ≡ Some s.call) (sym told.calls) (call_of_sent ss s told.numbered was.accepted)
 
-  -- a message of the plan that was handed over, or abandoned
+  -- a message of the plan that was delivered, or abandoned
   ended_so : (l : Lane) (k : ℕ) (m : Message) (s : Sent) → WasSent e s → message_at (a w x n).plan l k ≡ Some m → m.ticket ≡ s.ticket
       → ((a w x n).abandoned l k ≡ true) ⊎ WasHanded (a w x n).plan (r w x n) l k → IsDelivered matches s ⊎ WasGivenUp e s
   ended_so l k m s was there ticket (inl gone) = inr (abandoned_given l k m s there (sent_is w x n ss ts now told l k m s there was.accepted ticket) gone)

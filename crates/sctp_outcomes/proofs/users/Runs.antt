@@ -1,4 +1,4 @@
--- Over a whole run: what a user took, handed in and named, and the time, are what both ends and both logs have.
+-- Over a whole run: what a user took, handed in and named, and the time, are what both endpoints and both logs have.
 use Rattle.std.proofs.Common.{◌≡◌, ℕ, zero, suc, ◌+◌, ◌⊎◌, max, Bool, true, false, List, [], ◌∷◌, ◌++◌, length, length-append, slice_get, Option, Some, None, inl, inr, refl, sym, subst, ap, ◌∙◌, arith}
 use Rattle.std.specs.Prelude.{if◌then◌else◌}
 use Rattle.std.proofs.lemmas.List.{append-nil, append_assoc}
@@ -19,7 +19,7 @@ use Rattle.sctp_outcomes.proofs.users.Accepted.{calls_of, IsLogged, step_logged}
 
 -- ---- tickets
 
--- these messages have the tickets behind this one, one after the other
+-- these messages have the tickets after this one, one after the other
 abbrev pub AreNumbered : ℕ → List Sent → Type 0
 AreNumbered k [] = Unit {0}
 AreNumbered k (s ∷ ss) = (s.ticket ≡ suc k) × AreNumbered (suc k) ss

@@ -19,7 +19,7 @@ walked true (Some start) k more = more (Some start) (suc k)
 walked false None k more = more None (suc k)
 walked false (Some start) k more = block start k ∷ more None (suc k)
 
--- the runs that are found over so many offsets from the k-th on; if one is open, it started at that offset
+-- the runs that are found over this many offsets from the k-th on; if one is open, it started at that offset
 abbrev pub runs_from : (ℕ → Bool) → (c : ℕ) → (depth : ℕ) → Option ℕ → ℕ → List BlockMeaning
 runs_from seen c zero begun k = run_closed begun k
 runs_from seen c (suc depth) begun k = walked (seen (c + k)) begun k (runs_from seen c depth)

@@ -50,7 +50,7 @@ WithIsOne = (f : Format) (kept xs ys : List Piece) (y : Piece) → IsFilledOnce 
 
 -- ---- what is due
 
--- from any number on, over at least so many that the last one kept or skipped lies behind
+-- from any number on, over as many at least as pass the last one kept or skipped
 abbrev pub DueIsComputed : Type 0
 DueIsComputed = (f : Format) (r : ReceiverView) (s depth n : ℕ) → max (r.skip (ordered_lane s)) (numbers r.kept) ≤ n + depth →
     IsDue f r s n (due_from f r.kept s (r.skip (ordered_lane s)) depth n).messages (due_from f r.kept s (r.skip (ordered_lane s)) depth n).next

@@ -18,7 +18,7 @@ abbrev pub next_if : Bool → ℕ → (ℕ → ℕ) → ℕ
 next_if true c more = more (suc c)
 next_if false c more = c
 
--- from c on, over at most so many recorded indexes
+-- from c on, over at most this many recorded indexes
 abbrev pub cumulative_from : (ℕ → Bool) → (depth : ℕ) → ℕ → ℕ
 cumulative_from seen zero c = c
 cumulative_from seen (suc depth) c = next_if (seen (suc c)) c (cumulative_from seen depth)
@@ -33,7 +33,7 @@ cumulative r bound = cumulative_from r.seen bound r.jump
 
 -- ---- what is due on a stream
 
--- what is handed over on a stream, in order, and the next number after it
+-- what is delivered on a stream, in order, and the next number after it
 pub record DueOnStream : Type 0 where
   pub messages : List Handed
   pub next : ℕ
@@ -42,14 +42,14 @@ pub record DueOnStream : Type 0 where
 abbrev pub with_due_message : Handed → DueOnStream → DueOnStream
 with_due_message h d = record { messages = h ∷ d.messages; next = d.next }
 
--- what is done with one number: a whole message is handed over, a skipped number passed over, and at another one it ends
+-- what is done with one number: a whole message is delivered, a skipped number passed over, and at another one it ends
 abbrev pub due_at : Format → Option (List Piece) → Bool → ℕ → (ℕ → DueOnStream) → DueOnStream
 due_at f (Some (x ∷ xs)) skipped n more = with_due_message (message_of f x xs) (more (suc n))
 due_at f (Some []) skipped n more = record { messages = []; next = n }
 due_at f None true n more = more (suc n)
 due_at f None false n more = record { messages = []; next = n }
 
--- from number n on, over at most so many numbers; those below `skip` may be passed over
+-- from number n on, over at most this many numbers; those below `skip` may be passed over
 abbrev pub due_from : Format → List Piece → (stream skip : ℕ) → (depth : ℕ) → ℕ → DueOnStream
 due_from f kept s skip zero n = record { messages = []; next = n }
 due_from f kept s skip (suc depth) n = due_at f (whole_number f kept (ordered_lane s) n) (nat_lt n skip) n (due_from f kept s skip depth)
@@ -68,7 +68,7 @@ numbers (x ∷ xs) = max (past_number x.number) (numbers xs)
 abbrev pub due : Format → ReceiverView → ℕ → DueOnStream
 due f r s = due_from f r.kept s (r.skip (ordered_lane s)) (max (r.skip (ordered_lane s)) (numbers r.kept)) (r.next s)
 
--- ---- handing over
+-- ---- delivering
 
 -- what is due on stream s waits for the user, and the chunks of the numbers that are done with go (RFC 9260, 6.6)
 abbrev pub gives_ordered : Format → ℕ → ReceiverView → ReceiverView
@@ -89,7 +89,7 @@ handed_if f r (Some (x ∷ xs)) = handed_unordered f r x xs
 handed_if f r (Some []) = r
 handed_if f r None = r
 
--- the whole message of an unordered chunk is handed over at once, if it is complete
+-- the whole message of an unordered chunk is delivered at once, if it is complete
 abbrev pub gives_unordered : Format → Piece → ReceiverView → ReceiverView
 gives_unordered f y r = handed_if f r (whole_with f r.kept y)
 
@@ -98,9 +98,9 @@ abbrev pub gives : Format → Kind → Piece → ReceiverView → ReceiverView
 gives f Ordered y r = gives_ordered f y.lane.stream r
 gives f Unordered y r = gives_unordered f y r
 
--- ---- a piece and a FORWARD
+-- ---- a data chunk and a FORWARD
 
--- the view after a chunk with this answer: what was recorded and kept, and what was handed over
+-- the view after a chunk with this answer: what was recorded and kept, and what was delivered
 abbrev pub after_piece : Format → ReceiverView → Piece → ℕ → PieceAnswer → ReceiverView
 after_piece f r x wire Duplicate = noted r wire
 after_piece f r x wire Ahead = r
@@ -109,7 +109,7 @@ after_piece f r x wire Passed = recorded r x
 after_piece f r x wire NoRoom = r
 after_piece f r x wire Kept = gives f x.lane.kind x (record (recorded r x) { kept = x ∷ r.kept })
 
--- the view after a piece, at this cumulative index
+-- the view after a data chunk, at this cumulative index
 abbrev pub piece_step : Format → ReceiverView → ℕ → PieceMeaning → ReceiverView
 piece_step f r c p = after_piece f r (piece_at f r c p) p.tsn (answer_to f r c p)
 

@@ -1,5 +1,6 @@
 -- All whole messages among kept chunks, computed by trying every chunk and all that may follow it.
-use Rattle.std.specs.Prelude.{ℕ, zero, suc, ◌==◌, nat_lt, max, not, ◌&&◌, ◌||◌, if◌then◌else◌, Bool, true, false, List, [], ◌∷◌, map, filter, Option, Some, None}
+use Rattle.std.specs.Prelude.{ℕ, zero, suc, ◌==◌, nat_lt, max, not, ◌&&◌, ◌||◌, if◌then◌else◌, Bool, true, false, List, [], ◌∷◌, map, filter, Option, Some}
+use Rattle.std.specs.Prelude.{None}
 use Rattle.std.specs.List.{flat_map}
 use Rattle.sctp_model.specs.messages.Format.{Format, Plain, Interleaved, Lane, same_lane}
 use Rattle.sctp_model.specs.messages.Pieces.{Piece, fragment_of, same_number}

@@ -3,7 +3,7 @@ use Rattle.std.specs.Prelude.{◌≡◌, ◌↔◌, ℕ, ◌<◌, ◌≤◌, Lis
 use Rattle.sctp_model.specs.numbers.Lists.{joined}
 use Rattle.sctp_model.specs.sender.Queueing.{cut}
 
--- a fragment with others behind it has the full size; the last one has a byte at least, and no more than the full size
+-- a fragment with others after it has the full size; the last one has a byte at least, and no more than the full size
 abbrev pub IsSized : (size : ℕ) → (fragment : List ℕ) → (behind : List (List ℕ)) → Type 0
 IsSized size x [] = (0 < length x) × (length x ≤ size)
 IsSized size x (y ∷ ys) = length x ≡ size

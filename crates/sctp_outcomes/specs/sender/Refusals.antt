@@ -28,7 +28,8 @@ pub record IsTooMuch (v : SenderView) (bytes : List ℕ) : Type 0 where
 
 -- ---- refused
 
--- the stream doesn't exist; it is being reset, or the peer refused to; the message is empty; it is too long; too many messages wait; tickets or TSNs would run out
+-- the stream doesn't exist; it is being reset, or the peer refused to; the message is empty; it is too long; too many messages wait; tickets or TSNs would
+-- run out
 pub data IsRefused (v : SenderView) (stream : ℕ) (bytes : List ℕ) : Refusal → Type 0 where
   Has_no_stream : v.streams ≤ stream → IsRefused v stream bytes NoSuchStream
   Is_reset : stream < v.streams → is_sending (v.resets.sending stream) ≡ false → IsRefused v stream bytes Resetting
@@ -48,7 +49,7 @@ pub record IsAccepted (v : SenderView) (stream : ℕ) (bytes : List ℕ) : Type 
 
 -- ---- laws, if a fragment may have a byte
 
--- the reason that is told is the one that there is
+-- the reason that is reported is the one that there is
 abbrev pub RefusalIsTold : Type 0
 RefusalIsTold = (v : SenderView) (stream : ℕ) (bytes : List ℕ) (a : Refusal) → 0 < v.fragment → (refusal v stream bytes ≡ Some a) ↔ IsRefused v stream bytes a
 

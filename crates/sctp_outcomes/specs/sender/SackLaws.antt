@@ -7,7 +7,7 @@ use Rattle.sctp_outcomes.specs.sender.Sacks.{IsFaulty, IsShutdownFaulty, IsSackT
 
 -- ---- a SACK whose cumulative TSN has 32 bits
 
--- the fault that is told is the one that it has
+-- the fault that is reported is the one that it has
 abbrev pub SackFaultIsTold : Type 0
 SackFaultIsTold = (v : SenderView) (x : SackMeaning) (a : SackFault) → x.cumulative < 2 ^ 32 → (sack_fault v x ≡ Some a) ↔ IsFaulty v x a
 
@@ -25,7 +25,7 @@ FaultyIsDropped = (v : SenderView) (x : SackMeaning) (a : SackFault) → x.cumul
 
 -- ---- a SHUTDOWN
 
--- the fault that is told is the one that it has
+-- the fault that is reported is the one that it has
 abbrev pub ShutdownFaultIsTold : Type 0
 ShutdownFaultIsTold = (v : SenderView) (wire : ℕ) (a : SackFault) → wire < 2 ^ 32 → (shutdown_fault v wire ≡ Some a) ↔ IsShutdownFaulty v wire a
 

@@ -15,7 +15,7 @@ pub record IsReadAs (v : SenderView) (wire c : ℕ) : Type 0 where
   pub within : c ≤ v.cum + 2 ^ 31
   pub tsn : tsn v.initial c ≡ wire
 
--- the TSN comes before that of CUM
+-- the TSN is BEFORE that of CUM
 abbrev pub IsOld : SenderView → (wire : ℕ) → Type 0
 IsOld v wire = before 32 wire (tsn v.initial v.cum) ≡ true
 
@@ -23,7 +23,7 @@ IsOld v wire = before 32 wire (tsn v.initial v.cum) ≡ true
 abbrev pub IsPast : SenderView → (c : ℕ) → List BlockMeaning → Type 0
 IsPast v c blocks = (length v.plan.entries < c) ⊎ ((b : BlockMeaning) × Has blocks b × (length v.plan.entries < c + b.end))
 
--- Each block begins behind the end of the one before it, the first one behind this offset, and none ends before it begins.
+-- Each block begins after the end of the one before it, the first one after this offset, and none ends before it begins.
 abbrev pub AreBlocks : (offset : ℕ) → List BlockMeaning → Type 0
 AreBlocks offset [] = Unit {0}
 AreBlocks offset (b ∷ bs) = (offset < b.start) × (b.start ≤ b.end) × AreBlocks b.end bs
@@ -47,7 +47,7 @@ pub data IsShutdownFaulty (v : SenderView) (wire : ℕ) : SackFault → Type 0 w
 
 -- ---- what it leaves
 
--- the index is to be repeated if it was before, and isn't covered now
+-- the index is to be retransmitted if it was before, and isn't covered now
 abbrev pub KeepsMark : (v u : SenderView) → (index : ℕ) → Type 0
 KeepsMark v u i = (u.marked i ≡ true) ↔ ((v.marked i ≡ true) × (u.covered i ≡ true → ⊥))
 

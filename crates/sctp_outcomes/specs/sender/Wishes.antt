@@ -21,7 +21,7 @@ pub record IsLowestSo (v : SenderView) (IsSo : ℕ → Type 0) (i : ℕ) : Type 
 abbrev pub IsNoneSo : SenderView → (ℕ → Type 0) → Type 0
 IsNoneSo v IsSo = (i : ℕ) → 0 < i → i ≤ length v.plan.entries → IsSo i → ⊥
 
--- it is marked for repeating
+-- it is marked for retransmission
 abbrev pub IsToRepeat : SenderView → (index : ℕ) → Type 0
 IsToRepeat v i = v.marked i ≡ true
 

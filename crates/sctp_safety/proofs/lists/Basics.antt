@@ -137,7 +137,7 @@ pub slice_get-end : {A : Type 0} (xs : List A) (y : A) → slice_get (xs ++ y �
 slice_get-end [] y = refl
 slice_get-end (x ∷ xs) y = slice_get-end xs y
 
--- what stands in a list with one more element stood there before, or is the new one
+-- what is in a list with one more element was there before, or is the new one
 pub slice_get-push : {A : Type 0} (xs : List A) (y : A) (n : ℕ) (x : A) → slice_get (xs ++ y ∷ []) n ≡ Some x →
     (slice_get xs n ≡ Some x) ⊎ ((n ≡ length xs) × (y ≡ x))
 slice_get-push [] y zero x h = inr (refl, cc)
@@ -154,7 +154,7 @@ slice_get-within [] n x h = absurd (cc)
 slice_get-within (y ∷ xs) zero x h = omega arith
 slice_get-within (y ∷ xs) (suc n) x h = let r : n < length xs = slice_get-within xs n x h in omega arith
 
--- what stands in two lists joined stands in the first, or in the second
+-- what is in two lists joined is in the first, or in the second
 pub slice_get-cases : {A : Type 0} (xs ys : List A) (n : ℕ) (x : A) → slice_get (xs ++ ys) n ≡ Some x →
     (slice_get xs n ≡ Some x) ⊎ ((j : ℕ) × (n ≡ length xs + j) × (slice_get ys j ≡ Some x))
 slice_get-cases [] ys n x h = inr (n, omega arith, h)
@@ -184,7 +184,7 @@ pub item_at-above : {A : Type 0} (xs : List A) (i : ℕ) (x : A) → item_at xs 
 item_at-above xs zero x h = absurd (cc)
 item_at-above xs (suc i) x h = omega arith
 
--- an element behind a list: its place is one past the list's length, and j more
+-- an element after a list: its place is one past the list's length, and j more
 pub item_at-cases : {A : Type 0} (xs ys : List A) (i : ℕ) (x : A) → item_at (xs ++ ys) i ≡ Some x →
     (item_at xs i ≡ Some x) ⊎ ((j : ℕ) × (i ≡ suc (length xs) + j) × (slice_get ys j ≡ Some x))
 item_at-cases xs ys zero x h = inl h

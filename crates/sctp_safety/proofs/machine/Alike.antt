@@ -1,4 +1,4 @@
--- What two ends have in common that are opened without packets.
+-- What two endpoints have in common that are opened without packets.
 use Rattle.std.proofs.Common.{◌≡◌, Bool, true, false, refl, eqb-true}
 use Rattle.std.specs.Prelude.{◌&&◌, ◌==◌, min}
 use Rattle.sctp_model.specs.end.EndView.{Configuration}

@@ -1,4 +1,4 @@
--- What an end's answers hold: a listener's INIT ACK apart, never a chunk of the opening.
+-- What an endpoint's answers hold: a listener's INIT ACK apart, never a chunk of the opening.
 use Rattle.std.proofs.Common.{◌≡◌, ℕ, ◌==◌, ◌⊎◌, Bool, true, false, List, [], ◌∷◌, Option, Some, None, inl, inr, refl, sym, subst}
 use Rattle.std.specs.Prelude.{if◌then◌else◌}
 use Rattle.sctp_model.specs.numbers.Lists.{Has}
@@ -32,7 +32,7 @@ pub one_chunk : (c : Configuration) (tag : ℕ) (y : ChunkMeaning) → opens_ass
 one_chunk c tag y off x (inl e) = subst (λ (z : ChunkMeaning). opens_association z ≡ false) e off
 one_chunk c tag y off x (inr none) = elim none [ ]
 
--- ---- an answer of an end with an association
+-- ---- an answer of an endpoint with an association
 
 pub replies_nothing : (e : EndView) (tag : ℕ) (x : ChunkMeaning) (t : EndView) (p : Packet) → Acts e tag x (Replies t p) → OpensNothing p
 replies_nothing e tag (Data q) t p (PieceEmpty u _ _ _ _) = one_chunk e.configuration u.peer _ refl
@@ -61,7 +61,7 @@ no_answer : (b : Bool) (p : Packet) → verdict_of b ≡ Answer p → ⊥
 no_answer true p q = absurd (cc)
 no_answer false p q = absurd (cc)
 
--- what is told of the chunks of a packet, if it is an answer
+-- the verdict on the chunks of a packet, if it is an answer
 pub acts_answer : (tag : ℕ) (e : EndView) (b : Notes) (xs : List ChunkMeaning) (t : EndView) (m : Notes) (v : Verdict) → AllAct tag e b xs t m v →
     (p : Packet) → v ≡ Answer p → OpensNothing p
 acts_answer tag e b xs t m v (NoneLeft _ _) p q = absurd (no_answer b.listed p q)
@@ -71,7 +71,7 @@ acts_answer tag e b xs t m v (Last _ _ _ x ys act) p q = absurd (cc)
 acts_answer tag e b xs t m v (EndsAnswered _ _ _ x ys r act) p q = let s : r ≡ p = cc in subst OpensNothing s (replies_nothing e tag x t r act)
 acts_answer tag e b xs t m v (Stopped _ _ x ys n act) p q = absurd (cc)
 
--- ---- an answer of an end without one
+-- ---- an answer of an endpoint without one
 
 -- The answer to an INIT at a listener: an INIT ACK to the tag that it asks for.
 pub record AnswersInit (e : EndView) (d : Draw) (p : Packet) (r : Packet) : Type 0 where

@@ -1,4 +1,4 @@
--- Two ends that have not met: what a packet does at each of them, and what each says.
+-- Two endpoints that have not met: what a packet does at each of them, and what each says.
 use Rattle.std.proofs.Common.{◌≡◌, ℕ, ◌⊎◌, true, false, List, [], ◌∷◌, drop, Option, Some, None, inl, inr, refl, sym, subst, ap, ◌∙◌, Bool}
 use Rattle.sctp_model.specs.numbers.Lists.{Has}
 use Rattle.sctp_model.specs.wire.Chunk.{InitMeaning, ChunkMeaning, Init, InitAck, CookieEcho, CookieAck}
@@ -32,7 +32,7 @@ use Rattle.sctp_safety.proofs.machine.Fronts.{IsFront, From, FromPeer, FromOutsi
 abbrev pub IsListeners : ChunkMeaning → Type 0
 IsListeners x = (opens_association x ≡ false) ⊎ ((m : InitMeaning) × (x ≡ InitAck m))
 
--- Two ends apart, with their bags.
+-- Two endpoints apart, with their bags.
 pub record IsApart (s : Setup) (drawn : List ℕ) (a b : EndView) (out back : List Packet) : Type 0 where
   pub listens : b.phase ≡ Listening
   pub caller : IsCaller s drawn out back a
@@ -47,7 +47,7 @@ no_cookie_ack : IsListeners CookieAck → ⊥
 no_cookie_ack (inl e) = absurd (cc)
 no_cookie_ack (inr (x, e)) = absurd (cc)
 
--- what an end that isn't the listener may answer
+-- what an endpoint that isn't the listener may answer
 abbrev pub IsQuiet : Option Packet → Type 0
 IsQuiet None = Unit {0}
 IsQuiet (Some p) = OpensNothing p

@@ -1,4 +1,4 @@
--- How two ends begin: both are opened without packets, or the caller calls.
+-- How two endpoints begin: both are opened without packets, or the caller calls.
 use Rattle.std.proofs.Common.{◌≡◌, ℕ, true, false, List, [], ◌∷◌, inl, inr, refl, sym, subst, ap, ◌∙◌}
 use Rattle.std.specs.Prelude.{◌<◌, min}
 use Rattle.sctp_model.specs.numbers.Lists.{Has}
@@ -18,7 +18,7 @@ use Rattle.sctp_safety.proofs.machine.Ground.{IsGrounded}
 use Rattle.sctp_safety.proofs.machine.Met.{IsMet}
 
 module _ (s : Setup) (drawn : List ℕ) (w : World) where
-  -- the ends are opened without packets
+  -- the endpoints are opened without packets
   pub opens : (ground : IsGrounded s drawn w) → ((x : Side) → IsConfiguration (configuration_of s x)) → AreAlike w.a.configuration w.b.configuration → (x y : Draw) → Has drawn x.tag → Has drawn y.tag → IsMet drawn (record w { a = opened w.a.configuration x y; b = opened w.b.configuration y x; openable = false })
   opens ground configured like x y hx hy = record {
     met = record {

@@ -15,7 +15,7 @@ use Rattle.sctp_safety.proofs.machine.AnswerToInit.{init_of}
 use Rattle.sctp_safety.proofs.machine.Answering.{opens_association}
 use Rattle.sctp_safety.proofs.machine.CallerFacts.{InitFits, IsFit, IsCaller, in_more, caller_gives, caller_plain}
 
--- a chunk of it, by where it stands
+-- a chunk of it, by the endpoint's state
 pub data IsSaid (c : Configuration) (h : Phase) (y : ChunkMeaning) : Type 0 where
   Says : opens_association y ≡ false → IsSaid c h y
   Inits : (d : Draw) → h ≡ Calling d → y ≡ own_init c d → IsSaid c h y
@@ -63,7 +63,7 @@ beside s (inl e) = subst (λ (r : Slot). beside_cookie r ≡ true) e refl
 beside s (inr (inl e)) = subst (λ (r : Slot). beside_cookie r ≡ true) e refl
 beside s (inr (inr none)) = elim none [ ]
 
--- Each chunk that an end builds that isn't open.
+-- Each chunk that an endpoint builds that isn't open.
 builds_said : (e : EndView) (zs : List ChunkMeaning) (t : EndView) → is_open e.phase ≡ false → Builds e zs t → (y : ChunkMeaning) → Has zs y → IsSaid e.configuration e.phase y
 builds_said e zs t off (Sleeps _) y h = elim h [ ]
 builds_said e zs t off (Waits _ _ _) y h = elim h [ ]

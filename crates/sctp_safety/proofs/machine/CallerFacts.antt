@@ -1,4 +1,4 @@
--- The caller before its association has both ends: what its bag and the listener's say to it, wherever it stands.
+-- The caller before its association has both endpoints: what its bag and the listener's say to it, in each state.
 use Rattle.std.proofs.Common.{◌≡◌, ℕ, true, false, List, [], ◌∷◌, ◌++◌, Some, inl, inr, refl, sym, subst, ap, ◌∙◌}
 use Rattle.sctp_model.specs.numbers.Lists.{Has}
 use Rattle.sctp_model.specs.wire.Chunk.{InitMeaning, ChunkMeaning, Init, InitAck, CookieEcho, CookieAck}
@@ -19,7 +19,7 @@ use Rattle.sctp_safety.specs.Agreement.{AreAgreed, AreEachOthers}
 use Rattle.sctp_safety.proofs.machine.Turns.{IsPlainTurn, Stays, Leaves, Goes, IsPlain, plain_rested, rested_has, IsLeft, Plainly, Accepts, Acked, goes_left, ends_plain, replies_plain}
 use Rattle.sctp_safety.proofs.machine.AnswerToInit.{init_of, IsAnswer}
 
--- ---- what is said to a caller, by where it stands
+-- ---- what is said to a caller, by its state
 
 -- an INIT of its bag: none before it called; then the one of its draw
 abbrev pub InitFits : Setup → Phase → InitMeaning → Type 0
@@ -27,7 +27,7 @@ InitFits s Idle m = ⊥
 InitFits s (Calling d) m = m ≡ init_of s d
 InitFits s h m = Unit {0}
 
--- an INIT ACK of the listener's bag under a tag that was drawn: none before it called; then one that answers it
+-- an INIT ACK of the listener's bag under a tag that was generated: none before it called; then one that answers it
 abbrev pub AckFits : Setup → List ℕ → Phase → InitMeaning → Type 0
 AckFits s drawn Idle m = ⊥
 AckFits s drawn (Calling d) m = IsAnswer s drawn d m

@@ -30,7 +30,7 @@ tags_b = record { own = 9; peer = 7 }
 abbrev closing : List Event
 closing = Shutdown A ∷ Build A ∷ Deliver A 3 ∷ Build B ∷ Deliver B 3 ∷ Deliver A 4 ∷ []
 
--- nothing came, so all up to index 0 is reached
+-- nothing arrived, so all up to index 0 is reached
 fresh_cumulative : (i s b : ℕ) → IsCumulative (fresh_receiver i s b) 0
 fresh_cumulative i s b = record { reached = λ j low high. absurd (omega (arith, low, high)); open_end = λ h. go h }
   where
@@ -134,7 +134,7 @@ closes =
     Then w9 w10 w15 _ _ _ _ step_10 (Then w10 w11 w15 _ _ _ _ step_11 (Then w11 w12 w15 _ _ _ _ step_12 (Then w12 w13 w15 _ _ _ _ step_13
     (Then w13 w14 w15 _ _ _ _ step_14 (Then w14 w15 w15 _ _ _ _ step_15 (Rest w15))))))
 
--- ---- runs and lists, one behind the other
+-- ---- runs and lists, one after the other
 
 run_on : (u v w : World) (es fs : List Event) (os ps : List (Option Outcome)) → Run u es os v → Run v fs ps w → Run u (es ++ fs) (os ++ ps) w
 run_on u v w es fs os ps (Rest _) b = b

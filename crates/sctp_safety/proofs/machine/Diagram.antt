@@ -1,4 +1,4 @@
--- Over every run each end goes along the diagram of states, and keeps what it has agreed on.
+-- Over every run each endpoint goes along the diagram of states, and keeps what it has agreed on.
 use Rattle.std.proofs.Common.{◌≡◌, ℕ, ◌⊎◌, true, false, List, drop, inl, inr, refl, sym, subst, ◌∙◌}
 use Rattle.sctp_model.specs.wire.Chunk.{ChunkMeaning}
 use Rattle.sctp_model.specs.wire.Packet.{Packet}
@@ -74,7 +74,7 @@ plain_unbegun h k (Stays _) e = refl
 plain_unbegun h k (Leaves _ why has) e = let b = begun_by_association h has in let q : true ≡ false = sym b ∙ e in absurd (cc)
 plain_unbegun h k (Goes t g i p) e = absurd (cc)
 
--- ---- the moment, and the calls that open
+-- ---- the time, and the calls that open
 
 pub later_now : (e : EndView) (n : ℕ) → IsLaterEnd e (at_moment e n)
 later_now e n = record { configuration = refl; path = Here e.phase; role = λ h. refl; terms = λ h. refl }
@@ -82,7 +82,7 @@ later_now e n = record { configuration = refl; path = Here e.phase; role = λ h.
 pub later_ticked : (e : EndView) (n : ℕ) → IsLaterEnd e (ticked e n)
 later_ticked e n = later_on e (at_moment e n) (ticked e n) (later_now e n) (plain_later (at_moment e n) (ticked e n) (plain_ticked e n))
 
--- an end that hasn't begun
+-- an endpoint that hasn't begun
 not_begun : (e : EndView) (h : Phase) → e.phase ≡ h → has_begun h ≡ false → has_begun e.phase ≡ true → ⊥
 not_begun e h is off on = let q : true ≡ false = sym (subst (λ (k : Phase). has_begun k ≡ true) is on) ∙ off in absurd (cc)
 

@@ -1,4 +1,4 @@
--- Each step of the world takes each end along the diagram, so each run does.
+-- Each step of the world takes each endpoint along the diagram, so each run does.
 use Rattle.std.proofs.Common.{◌≡◌, max, true, false, List, [], ◌∷◌, Option, inl, inr, refl, sym, subst, ◌∙◌}
 use Rattle.sctp_model.specs.wire.Packet.{Packet}
 use Rattle.sctp_model.specs.end.EndView.{Ended, has_association, Phase, Idle, Listening, Calling, Echoing, Open, Over, EndView}
@@ -18,12 +18,12 @@ use Rattle.sctp_safety.proofs.machine.Diagram.{later_same, later_on, plain_later
 abbrev pub IsFresh : World → Type 0
 IsFresh w = w.openable ≡ true → (w.a.phase ≡ Idle) × (w.b.phase ≡ Listening)
 
--- what a step does to both ends
+-- what a step does to both endpoints
 pub record IsOnward (w v : World) : Type 0 where
   pub later : (x : Side) → IsLaterEnd (end_of w x) (end_of v x)
   pub fresh : IsFresh v
 
--- the same ends
+-- the same endpoints
 record IsKept (w v : World) : Type 0 where
   a : v.a ≡ w.a
   b : v.b ≡ w.b
@@ -62,7 +62,7 @@ onward_kept w v u o k = record { later = later; fresh = fresh }
 onward_same : (w : World) → IsFresh w → IsOnward w w
 onward_same w f = record { later = λ x. later_same (end_of w x); fresh = f }
 
--- ---- one end acts
+-- ---- one endpoint acts
 
 onward_end : (w : World) (s : Side) (t : EndView) → IsFresh w → IsLaterEnd (end_of w s) t →
     (has_begun (end_of w s).phase ≡ false → t.phase ≡ (end_of w s).phase) → IsOnward w (with_end w s t)
@@ -106,7 +106,7 @@ onward_came w B t l = record { later = later; fresh = λ q. absurd (cc) }
 onward_arrives : (w : World) (s : Side) (t : EndView) → IsLaterEnd (end_now w s) t → IsOnward w (came w s t)
 onward_arrives w s t l = onward_came w s t (later_on (end_of w s) (end_now w s) t (later_now (end_of w s) (clock_of w s)) l)
 
--- ---- both ends act
+-- ---- both endpoints act
 
 pub connect_idle : (h : Phase) → connect_answer h ≡ Called → h ≡ Idle
 connect_idle Idle e = refl
@@ -189,7 +189,7 @@ pub ends_follow_the_diagram : EndsFollowTheDiagram
 ends_follow_the_diagram s events more answers others w v before after x =
     (run_onward w more others v (run_onward (start s) events answers w (λ q. (refl, refl)) before).fresh after).later x
 
--- ---- a closed end
+-- ---- a closed endpoint
 
 no_turn : (h k : Phase) (why : Ended) → h ≡ Over why → IsTurn h k → ⊥
 no_turn h k why is (ByCall d) = absurd (cc)

@@ -1,4 +1,4 @@
--- What a step does to an end, in words that facts are proved over: the turn of the phase, and what every chunk leaves as it was.
+-- What a step does to an endpoint, in words that facts are proved over: the turn of the phase, and what every chunk leaves as it was.
 use Rattle.std.specs.Prelude.{◌&&◌, if◌then◌else◌}
 use Rattle.std.proofs.Common.{◌≡◌, ℕ, Bool, true, false, List, inl, inr, refl}
 use Rattle.sctp_model.specs.numbers.Lists.{Has}
@@ -12,7 +12,7 @@ use Rattle.sctp_model.specs.end.Acting.{Acts}
 use Rattle.sctp_model.specs.end.Strays.{Verdict, Taken, Dropped, Answer}
 use Rattle.sctp_model.specs.end.Arriving.{AllAct, NoneLeft, Next, Passes, Last, EndsAnswered, Stopped, verdict_of, Notes, noted, acknowledges, delays, kept_going, is_at_once, acknowledges_in, packet_ended}
 
--- ---- an end at rest
+-- ---- an endpoint at rest
 
 pub rested_cases : (P : EndView → Type 0) (e : EndView) → P e →
     ((t : Tags) → e.phase ≡ Open t ShutdownPending → drained e.sender ≡ true → P (says_shutdown t e)) →
@@ -46,7 +46,7 @@ by_listed : (R : Packet → Type 0) (b : Bool) → OfAnswer R (verdict_of b)
 by_listed R true = tt
 by_listed R false = tt
 
--- What each chunk of these keeps of an end: where the packet goes on, ends, or is answered.
+-- What each chunk of these keeps of an endpoint: whether the packet goes on, ends, or is answered.
 pub record Keeps (tag : ℕ) (P : EndView → Type 0) (Q : ChunkMeaning → Type 0) (R : Packet → Type 0) : Type 0 where
   pub goes : (e : EndView) (x : ChunkMeaning) (y : Note) (t : EndView) → Q x → P e → Acts e tag x (GoesOn y t) → P (rested t)
   pub ends : (e : EndView) (x : ChunkMeaning) (t : EndView) → Q x → P e → Acts e tag x (Ends t) → P t

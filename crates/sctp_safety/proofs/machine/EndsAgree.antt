@@ -1,4 +1,4 @@
--- Over every run from START that meets the premises, two ends are apart or agree.
+-- Over every run from START that meets the premises, two endpoints are apart or agree.
 use Rattle.std.proofs.Common.{◌≡◌, ℕ, true, false, List, [], ◌∷◌, ◌++◌, map, Option, inl, inr, refl, sym, subst, ap, arith, ◌<◌, ◌^◌}
 use Rattle.sctp_model.specs.numbers.Lists.{Has, joined}
 use Rattle.sctp_model.specs.end.Sealing.{Sealing}

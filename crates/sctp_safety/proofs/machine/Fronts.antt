@@ -1,4 +1,4 @@
--- What comes to an end in a step, whole or cut: a packet of the bag across, or a stranger's.
+-- What arrives at an endpoint in a step, whole or cut: a packet of the bag across, or a third party's.
 use Rattle.std.proofs.Common.{◌≡◌, ℕ, zero, suc, List, [], ◌∷◌, ◌++◌, Some, inl, inr, refl, sym, subst, ap, ◌∙◌}
 use Rattle.std.specs.Prelude.{slice_get}
 use Rattle.sctp_model.specs.numbers.Lists.{Has, item_at}
@@ -39,7 +39,7 @@ pub record IsFront (p q : Packet) : Type 0 where
   pub tag : q.tag ≡ p.tag
   pub chunks : (x : ChunkMeaning) → Has q.chunks x → Has p.chunks x
 
--- where a packet that comes to an end of this side is from
+-- where a packet that arrives at an endpoint of this side is from
 pub data From (s : Setup) (drawn : List ℕ) (w : World) (x : Side) (q : Packet) : Type 0 where
   FromPeer : (p : Packet) → Has (bag_of w (other x)) p → IsFront p q → From s drawn w x q
   FromOutside : IsStranger s.sealing drawn q → IsInitAlone q.chunks → From s drawn w x q
@@ -54,7 +54,7 @@ front_stranger s drawn p q f strange = record {
   chunks = λ x h. strange.chunks x (f.chunks x h);
 }
 
--- what the event brings, and for a packet of the end across its place in the bag
+-- what the event brings, and for a packet of the endpoint across its place in the bag
 pub data Brought (s : Setup) (drawn : List ℕ) (w : World) (e : Event) (x : Side) (q : Packet) : Type 0 where
   ByPeer : (p : Packet) (n : ℕ) → e ≡ Deliver (other x) n → item_at (bag_of w (other x)) n ≡ Some p → IsFront p q → Brought s drawn w e x q
   ByStranger : IsStranger s.sealing drawn q → IsInitAlone q.chunks → Brought s drawn w e x q

@@ -1,4 +1,4 @@
--- What holds in every world of a run, before anything is said of the opening: how the ends are set up, their seal, their moments, the draw.
+-- What holds in every world of a run, before anything is said of the opening: how the endpoints are set up, their seal, their times, the random values.
 use Rattle.std.proofs.Common.{◌≡◌, ℕ, ◌^◌, ◌<◌, max, true, List, [], ◌∷◌, map, Option, Some, None, inl, refl, sym, subst, arith, ◌∙◌}
 use Rattle.sctp_model.specs.numbers.Lists.{Has}
 use Rattle.sctp_model.specs.wire.Chunk.{ChunkMeaning}
@@ -27,12 +27,12 @@ use Rattle.sctp_safety.proofs.machine.OneEnd.{IsAt, at_end, at_log, at_packet, a
 
 -- ---- premises, of one event
 
--- its draws are among those of the run, and a foreign packet is a stranger's
+-- its random values are among those of the run, and a foreign packet is a third party's
 pub record IsFine (s : Setup) (drawn : List ℕ) (e : Event) : Type 0 where
   pub draws : (n : ℕ) → Has (map (λ (d : Draw). d.tag) (draws_of e)) n → Has drawn n
   pub strangers : (x : Side) (p : Packet) → e ≡ Foreign x (Some p) → IsStranger s.sealing drawn p
 
--- ---- a packet leaves an end as it was set up
+-- ---- a packet leaves an endpoint as it was set up
 
 plain_is_same : (e t : EndView) → IsPlain e t → IsSameEnd e t
 plain_is_same e t p = record { configuration = p.configuration; role = p.role; moment = p.moment }
@@ -60,7 +60,7 @@ arrives_same e d p t v (Heard u n _ ports tag has acts gap _) =
     let x = wearing (missed_below e.pace) u in
     same_ended e x (urged gap n) (same_on e u x (acts_same p.tag e no_notes p.chunks u n v has acts) (plain_is_same u x (plain_worn (missed_below e.pace) u)))
 
--- ---- an end
+-- ---- an endpoint
 
 pub record IsWell (s : Setup) (x : Side) (e : EndView) : Type 0 where
   pub configuration : e.configuration ≡ configuration_of s x
@@ -90,7 +90,7 @@ pub record IsGrounded (s : Setup) (drawn : List ℕ) (w : World) : Type 0 where
   pub draw_tag : Has drawn w.draw.tag
 
 module _ (s : Setup) (drawn : List ℕ) where
-  -- one end acts, at its own moment or at the clock
+  -- one endpoint acts, at its own time or at the clock
   ground_at : (w v : World) (x : Side) (t : EndView) (given : Option Packet) → IsGrounded s drawn w → IsAt w v x t given → IsWell s x t → IsGrounded s drawn v
   ground_at w v x t given g at well = record {
     ends = both_ends (λ (y : Side) (e : EndView). IsWell s y e) w v x t given at g.ends well;

@@ -1,4 +1,4 @@
--- Once two ends have met, no step parts them: an end goes along the diagram, and keeps its tags and its terms.
+-- Once two endpoints have met, no step parts them: an endpoint goes along the diagram, and keeps its tags and its terms.
 use Rattle.std.proofs.Common.{◌≡◌, ℕ, Bool, true, false, List, Option, refl, sym, subst}
 use Rattle.sctp_model.specs.numbers.Lists.{IsWithin}
 use Rattle.sctp_model.specs.end.EndView.{Terms, Phase, Idle, Listening, Calling, Echoing, Open, Over}
@@ -11,7 +11,7 @@ use Rattle.sctp_safety.specs.Agreement.{AreAgreed, AreEachOthers, was_open, Have
 use Rattle.sctp_safety.proofs.machine.Diagram.{path_agreed}
 use Rattle.sctp_safety.proofs.machine.DiagramRuns.{IsFresh, IsOnward, step_onward}
 
--- ---- the tags of an end that has agreed
+-- ---- the tags of an endpoint that has agreed
 
 turn_agrees : (h k : Phase) → IsTurn h k → has_agreed h ≡ true → has_agreed k ≡ true
 turn_agrees h k t e = path_agreed h k (On h k k t (Here k)) e
@@ -29,7 +29,7 @@ pub path_tags : (h k : Phase) → has_agreed h ≡ true → IsPath h k → IsWit
 path_tags h k e (Here _) n x = x
 path_tags h k e (On _ m _ t rest) n x = turn_tags h m e t n (path_tags m k (turn_agrees h m t e) rest n x)
 
--- ---- an end that is open, or over
+-- ---- an endpoint that is open, or over
 
 open_agreed : (h : Phase) → was_open h ≡ true → has_agreed h ≡ true
 open_agreed Idle e = absurd (cc)
@@ -105,12 +105,12 @@ listener_path h l m e (On _ k _ t rest) x = listener_path h k m (turn_open l k e
 
 -- ---- a step
 
--- two ends that have met, and go by tags that were drawn
+-- two endpoints that have met, and go by tags that were generated
 pub record IsMet (drawn : List ℕ) (w : World) : Type 0 where
   pub met : HaveMet w
   pub tags : (x : Side) → IsDrawn drawn (end_of w x).phase
 
--- nothing may be opened where one end has begun
+-- nothing may be opened if one endpoint has begun
 closed_by : (w : World) → IsFresh w → was_open w.b.phase ≡ true → w.openable ≡ false
 closed_by w fresh begun = go w.openable refl
   where

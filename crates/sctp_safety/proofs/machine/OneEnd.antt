@@ -1,4 +1,4 @@
--- A step at one end: what it leaves there, what it puts into that end's bag, and that nothing changes across.
+-- A step at one endpoint: what it leaves there, what it puts into that endpoint's bag, and that nothing changes across.
 use Rattle.std.proofs.Common.{◌≡◌, List, [], ◌∷◌, ◌++◌, Option, Some, None, refl, sym, subst}
 use Rattle.sctp_model.specs.wire.Packet.{Packet}
 use Rattle.sctp_model.specs.end.EndView.{EndView}
@@ -62,7 +62,7 @@ at_abort w s t (Aborts p) = at_packet w s t p
 at_abort w s t NoPeer = at_end w s t
 at_abort w s t TooLong = at_end w s t
 
--- what each end is, is so still
+-- what each endpoint is, is so still
 pub both_ends : (P : Side → EndView → Type 0) (w v : World) (s : Side) (t : EndView) (given : Option Packet) → IsAt w v s t given →
     ((x : Side) → P x (end_of w x)) → P s t → (x : Side) → P x (end_of v x)
 both_ends P w v A t given at all new A = subst (P A) (sym at.here) new

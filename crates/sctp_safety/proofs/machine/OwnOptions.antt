@@ -1,4 +1,4 @@
--- What an end writes of its options, its peer reads again: a listener's INIT ACK says the cookie, and what both ends are set up for.
+-- What an endpoint writes of its options, its peer reads again: a listener's INIT ACK says the cookie, and what both endpoints are set up for.
 use Rattle.std.proofs.Common.{◌≡◌, ℕ, ◌^◌, ◌<◌, not, ◌&&◌, ◌||◌, Bool, true, false, List, [], ◌∷◌, ◌++◌, length, Some, refl, ap, arith, ◌∙◌, append-nil}
 use Rattle.sctp_model.specs.wire.Typed.{Typed, IsTyped, typed_in}
 use Rattle.sctp_model.specs.wire.Unknown.{parameters_acted_on, parameters_reported, first_of}
@@ -179,7 +179,7 @@ module _ (c d : Configuration) where
   reset_read = ap (λ (xs : List Typed). c.reset && lists_type RECONFIG (first_of SUPPORTED_EXTENSIONS xs)) acted_own
       ∙ ap (λ (b : Bool). c.reset && b) (lists_reset d.interleave d.partial d.reset)
 
-  -- by the caller: behind the cookie, in the INIT ACK
+  -- by the caller: after the cookie, in the INIT ACK
   acted_behind : (v : List ℕ) → length v < 100 → parameters_acted_on (typed_in (written (item STATE_COOKIE v ∷ (own_options d ++ [])))) ≡ item STATE_COOKIE v ∷ options_by d.interleave d.partial d.reset
   acted_behind v short =
       ap (λ (xs : List Typed). parameters_acted_on (typed_in (written (item STATE_COOKIE v ∷ xs)))) (append-nil (own_options d) ∙ options_are d d.interleave d.partial d.reset refl refl refl)

@@ -1,4 +1,4 @@
--- What a RE-CONFIG leaves of an end: all but what its sender and its receiver know of resets, what is due of them, and their timer.
+-- What a RE-CONFIG leaves of an endpoint: all but what its sender and its receiver know of resets, what is due of them, and their timer.
 use Rattle.std.proofs.Common.{◌≡◌, ℕ, Bool, true, false, ◌&&◌, List, [], ◌∷◌, Option, None, Some, refl, ap, ◌∙◌, if◌then◌else◌, is_some}
 use Rattle.std.specs.Prelude.{drop}
 use Rattle.sctp_model.specs.numbers.Numbers.{u32_at}
@@ -56,7 +56,7 @@ taken_in r number named a = go (is_in_turn r number) a
 pub waiting_in : (r s : ReceiverView) (xs : List Typed) → IsResetIn r s → IsResetIn r (with_answers s xs)
 waiting_in r s xs (x, is) = (record x { answers = xs }, ap (λ (t : ReceiverView). with_answers t xs) is)
 
--- ---- an end
+-- ---- an endpoint
 
 -- the same end, but for resets
 pub record IsReconfigured (e t : EndView) : Type 0 where

@@ -1,4 +1,4 @@
--- What no chunk, moment or call changes of an end: how it was set up, and its role.
+-- What no chunk, time or call changes of an endpoint: how it was set up, and its role.
 use Rattle.std.proofs.Common.{◌≡◌, ℕ, Bool, true, false, List, refl, sym, subst, ◌∙◌}
 use Rattle.sctp_model.specs.wire.Chunk.{ChunkMeaning, Data, IData, Init, InitAck, Sack, Heartbeat, HeartbeatAck, Abort, Shutdown, ShutdownAck, Error, CookieEcho, CookieAck, ShutdownComplete, ForwardTsn, IForwardTsn, Unknown}
 use Rattle.sctp_model.specs.wire.Typed.{typed_in}

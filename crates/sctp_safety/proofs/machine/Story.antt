@@ -1,4 +1,4 @@
--- The story of two ends: they are apart until they have met, step by step.
+-- The story of two endpoints: they are apart until they have met, step by step.
 use Rattle.std.proofs.Common.{◌≡◌, ℕ, ◌⊎◌, max, Bool, true, false, List, [], ◌∷◌, Option, Some, None, inl, inr, refl, sym, subst, ◌∙◌}
 use Rattle.std.specs.Prelude.{if◌then◌else◌}
 use Rattle.sctp_model.specs.numbers.Lists.{Has}
@@ -39,7 +39,7 @@ pub data IsStory (s : Setup) (drawn : List ℕ) (w : World) : Type 0 where
   AreApart : IsApart s drawn w.a w.b w.from_a w.from_b → IsStory s drawn w
   HaveMet : IsMet drawn w → IsStory s drawn w
 
--- an end that listens builds nothing
+-- an endpoint that listens builds nothing
 sleeps : (e : EndView) (zs : List ChunkMeaning) (t : EndView) → e.phase ≡ Listening → Builds e zs t → zs ≡ []
 sleeps e zs t is (Sleeps _) = refl
 sleeps e zs t is (Waits _ _ _) = refl
@@ -61,7 +61,7 @@ abort_quiet e r = go (peer_tag e.phase)
     go (Some n) = by n _
 
 module _ (s : Setup) (drawn : List ℕ) (w : World) (ground : IsGrounded s drawn w) (apart : IsApart s drawn w.a w.b w.from_a w.from_b) where
-  -- ---- one end acts
+  -- ---- one endpoint acts
 
   -- the caller
   at_caller : (v : World) (t : EndView) (given : Option Packet) → IsAt w v A t given → IsCaller s drawn (bag_with w.from_a given) w.from_b t → IsStory s drawn v
@@ -134,7 +134,7 @@ module _ (s : Setup) (drawn : List ℕ) (w : World) (ground : IsGrounded s drawn
   builds_one v B y ys t at b = let q = sleeps (end_now w B) (y ∷ ys) t apart.listens b in absurd (cc)
 
   module _ (configured : (x : Side) → IsConfiguration (configuration_of s x)) where
-    -- a packet comes whole
+    -- a packet arrives whole
     comes : (v : World) (x : Side) (q : Packet) (t : EndView) (d : Verdict) → IsAt w v x t (answer_of d) → v.openable ≡ false → From s drawn w x q → Arrives (end_now w x) w.draw q t d →
         IsStory s drawn v
     comes v A q t d at closed from arrives = at_caller v t (answer_of d) at (gives (answer_of d) (caller_quiet s drawn w ground apart q t d arrives))
@@ -147,7 +147,7 @@ module _ (s : Setup) (drawn : List ℕ) (w : World) (ground : IsGrounded s drawn
         gives (Some p) off = caller_gives s drawn w.from_a w.from_b t p c (λ m h. let q = off (Init m) h in absurd (cc)) (λ xs b h o. let q = off (CookieEcho xs) h in absurd (cc))
     comes v B q t d at closed from arrives = at_listener v t (answer_of d) at (inl closed) (listener_comes s drawn w ground apart configured q t d from arrives)
 
-    -- or cut, and what it leaves is told to nobody
+    -- or cut, and nobody is notified of what it leaves
     comes_cut : (v : World) (x : Side) (q : Packet) (t : EndView) (d : Verdict) → IsAt w v x t None → v.openable ≡ false → is_answer d ≡ false → From s drawn w x q →
         Arrives (end_now w x) w.draw q t d → IsStory s drawn v
     comes_cut v x q t Taken at closed untold from arrives = comes v x q t Taken at closed from arrives
@@ -206,7 +206,7 @@ module _ (s : Setup) (drawn : List ℕ) (w : World) (ground : IsGrounded s drawn
         comes_cut v x (cut_to p (y ∷ front)) t d (at_came w x t) (closed_came x t) untold (from_cut s drawn w e x p y front back c fine brings part) arrives
     apart_step e o v fine (NoMemory _ other_event) = AreApart apart
 
--- Whichever step comes, the story goes on.
+-- Whichever step follows, the story goes on.
 pub story_step : (s : Setup) (drawn : List ℕ) → ((x : Side) → IsConfiguration (configuration_of s x)) → (w : World) (e : Event) (o : Option Outcome) (v : World) →
     IsFine s drawn e → IsGrounded s drawn w → IsFresh w → Step w e o v → IsStory s drawn w → IsStory s drawn v
 story_step s drawn configured w e o v fine ground fresh step (AreApart apart) = apart_step s drawn w ground apart configured e o v fine step

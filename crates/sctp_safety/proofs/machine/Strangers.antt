@@ -1,4 +1,4 @@
--- A stranger's packet changes nothing at an end: under no tag of its own does it pass, an INIT is passed over, and no cookie of its making opens.
+-- A third party's packet changes nothing at an endpoint: under no tag of its own does it pass, an INIT is passed over, and no cookie of its making opens.
 use Rattle.std.proofs.Common.{◌≡◌, ℕ, nat_le, Bool, true, false, List, [], ◌∷◌, Option, Some, None, inl, inr, refl, sym, subst, ap, eqb-true}
 use Rattle.std.specs.Prelude.{◌&&◌, if◌then◌else◌}
 use Rattle.sctp_model.specs.numbers.Lists.{Has}
@@ -25,7 +25,7 @@ either_tag : (t : Tags) (reflected : Bool) (n : ℕ) → n ≡ (if reflected the
 either_tag t true n e = inr (inl (sym e))
 either_tag t false n e = inl (sym e)
 
--- A tag that passes is one that the end goes by.
+-- A tag that passes is one that the endpoint goes by.
 pub passing_is_own : (h : Phase) (reflected : Bool) (n : ℕ) → has_association h ≡ true → passes_tag h reflected n ≡ true → Has (tags_of h) n
 passing_is_own Idle b n has e = absurd (cc)
 passing_is_own Listening b n has e = absurd (cc)
@@ -61,12 +61,12 @@ goes_by h (Unknown k f v) n e = Tag _ false e
 
 -- ---- an INIT
 
--- an INIT stands alone
+-- an INIT is alone in its packet
 init_alone : (m : InitMeaning) (xs : List ChunkMeaning) → ArePlaced (Init m ∷ xs) → xs ≡ []
 init_alone m [] placed = refl
 init_alone m (y ∷ ys) placed = absurd (cc)
 
--- and is passed over where there is an association
+-- and is passed over if there is an association
 init_passed : (e t : EndView) (n : Notes) (gap : Bool) (tag : ℕ) (m : InitMeaning) (v : Verdict) → AllAct tag e no_notes (Init m ∷ []) t n v → packet_ended (urged gap n) (wearing (missed_below e.pace) t) ≡ e
 init_passed e t n gap tag m v (Next _ _ _ _ _ _ _ _ _ act more) = absurd (cc)
 init_passed e t n gap tag m v (Passes _ _ _ _ _ _ _ act (NoneLeft _ _)) = nothing_missed e
@@ -76,7 +76,7 @@ init_passed e t n gap tag m v (Stopped _ _ _ _ _ act) = nothing_missed e
 
 -- ---- a cookie
 
--- A body that begins an association stood in a cookie, first in its packet, at a listener whose seal opened it.
+-- A body that begins an association was in a cookie, first in its packet, at a listener whose seal opened it.
 pub record IsFound (e : EndView) (tag : ℕ) (xs : List ChunkMeaning) (b : Body) : Type 0 where
   pub seal : Sealing
   pub role : e.role ≡ Listener seal
@@ -140,12 +140,12 @@ found_is e tag (x ∷ xs) b h = go (holds_abort (x ∷ xs)) h
 pub none_left : (tag : ℕ) (e t : EndView) (n : Notes) (gap : Bool) (v : Verdict) → AllAct tag e no_notes [] t n v → packet_ended (urged gap n) (wearing (missed_below e.pace) t) ≡ e
 none_left tag e t n gap v (NoneLeft _ _) = nothing_missed e
 
--- where a packet begins with an INIT, that is all of it
+-- if a packet begins with an INIT, that is all of it
 abbrev pub IsInitAlone : List ChunkMeaning → Type 0
 IsInitAlone ys = (m : InitMeaning) (xs : List ChunkMeaning) → ys ≡ Init m ∷ xs → xs ≡ []
 
 module _ (s : Sealing) (drawn : List ℕ) (e t : EndView) (n : Notes) (gap : Bool) (p : Packet) (v : Verdict) (strange : IsStranger s drawn p) (own : IsDrawn drawn e.phase) where
-  -- where there is an association
+  -- if there is an association
   heard_stays : has_association e.phase ≡ true → (xs : List ChunkMeaning) → IsInitAlone xs → passes_chunks e.phase p.tag xs ≡ true → AllAct p.tag e no_notes xs t n v → packet_ended (urged gap n) (wearing (missed_below e.pace) t) ≡ e
   heard_stays has [] alone may all = none_left p.tag e t n gap v all
   heard_stays has (x ∷ xs) alone may all = by x (goes_by e.phase x p.tag may) alone all
@@ -155,7 +155,7 @@ module _ (s : Sealing) (drawn : List ℕ) (e t : EndView) (n : Notes) (gap : Boo
       by y (Zero m) stands acts =
           init_passed e t n gap p.tag m v (subst (λ (ys : List ChunkMeaning). AllAct p.tag e no_notes (Init m ∷ ys) t n v) (stands m xs refl) acts)
 
-  -- no cookie of a stranger opens
+  -- no cookie of a third party opens
   pub nothing_found : ((z : Sealing) → e.role ≡ Listener z → z ≡ s) → (b : Body) → IsFound e p.tag p.chunks b → ⊥
   nothing_found one b f = strange.chunks (CookieEcho f.cookie) held (is_body (s.opened f.cookie) opens)
     where
@@ -169,7 +169,7 @@ module _ (s : Sealing) (drawn : List ℕ) (e t : EndView) (n : Notes) (gap : Boo
       is_body (Some x) q = tt
       is_body None q = absurd (cc)
 
--- So the end stays, even where a packet is cut before some chunk.
+-- So the endpoint stays, even if a packet is cut before some chunk.
 pub stranger_stays : (s : Sealing) (drawn : List ℕ) (e : EndView) (d : Draw) (p : Packet) (t : EndView) (v : Verdict) →
     IsStranger s drawn p → IsInitAlone p.chunks → IsDrawn drawn e.phase → ((z : Sealing) → e.role ≡ Listener z → z ≡ s) → Arrives e d p t v → t ≡ e
 stranger_stays s drawn e d p t v strange alone own one (Elsewhere ports) = refl

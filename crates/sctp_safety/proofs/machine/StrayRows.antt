@@ -22,7 +22,7 @@ to_a tag chunk = record { source = 5001; destination = 5000; tag = tag; chunks =
 abbrev init_of : ℕ → ℕ → ChunkMeaning
 init_of tag outbound = Init (record { tag = tag; rwnd = 65536; outbound = outbound; inbound = 1; tsn = 100; parameters = [] })
 
--- a cookie made at the moment 0
+-- a cookie made at time 0
 abbrev body : Body
 body = record {
   made = 0;

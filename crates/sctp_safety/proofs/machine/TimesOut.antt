@@ -1,4 +1,5 @@
--- A caller that hears nothing: its INIT goes out nine times, 1, 2, 4, 8, 16, 32, 60 and 60 seconds apart, and 60 seconds after the last it gives up (RFC 9260, 5.1 and 6.3.3).
+-- A caller that hears nothing: its INIT goes out nine times, 1, 2, 4, 8, 16, 32, 60 and 60 seconds apart, and 60 seconds after the last it gives up (RFC
+-- 9260, 5.1 and 6.3.3).
 use Rattle.std.proofs.Common.{false, ◌≡◌, ℕ, zero, suc, true, Option, Some, None, refl}
 use Rattle.sctp_model.specs.end.EndView.{TimedOut, Idle, Calling, Over, Caller, InitAlarm, EndView, fresh_end}
 use Rattle.sctp_model.specs.end.Clock.{started}
@@ -8,7 +9,7 @@ use Rattle.sctp_model.specs.end.UserCalls.{called}
 use Rattle.sctp_model.specs.world.World.{A, configuration_of}
 use Rattle.sctp_safety.proofs.machine.OpeningWorlds.{two, of_a}
 
--- the INIT goes out, and the end is told the moment at which its timer expires
+-- the INIT goes out, and the endpoint is given the time at which its timer expires
 abbrev init_sent : EndView → EndView
 init_sent e = started InitAlarm (with_due (record e.due { init = false }) e)
 

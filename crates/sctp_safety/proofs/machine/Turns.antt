@@ -1,4 +1,4 @@
--- How an end turns: nearly everything leaves its terms, and its state but for closing; only an INIT ACK and a COOKIE ACK do more.
+-- How an endpoint turns: nearly everything leaves its terms, and its state but for closing; only an INIT ACK and a COOKIE ACK do more.
 use Rattle.std.proofs.Common.{◌≡◌, ℕ, Bool, true, false, List, [], ◌∷◌, ◌++◌, Some, refl, sym, subst, ◌∙◌}
 use Rattle.sctp_model.specs.wire.Chunk.{InitMeaning, ChunkMeaning, Data, IData, Init, InitAck, Sack, Heartbeat, HeartbeatAck, Abort, Shutdown, ShutdownAck, Error, CookieEcho, CookieAck, ShutdownComplete, ForwardTsn, IForwardTsn, Unknown}
 use Rattle.sctp_model.specs.end.EndView.{AbortedHere, Draw, Tags, Stage, Established, ShutdownPending, ShutdownSent, ShutdownReceived, ShutdownAckSent, Ended, Aborted, Completed, StaleCookie, Phase, Idle, Listening, Calling, Echoing, Open, Over, EndView, has_association}
@@ -32,7 +32,7 @@ begun_by_association (Echoing t xs) e = refl
 begun_by_association (Open t g) e = refl
 begun_by_association (Over why) e = absurd (cc)
 
--- an end stays where it is, closes, or goes on with closing
+-- an endpoint stays where it is, closes, or goes on with closing
 pub data IsPlainTurn : Phase → Phase → Type 0 where
   Stays : (h : Phase) → IsPlainTurn h h
   Leaves : (h : Phase) (why : Ended) → has_association h ≡ true → IsPlainTurn h (Over why)
@@ -72,7 +72,7 @@ plain_on e t u a b = record {
   turn = turn_on e.phase t.phase u.phase a.turn b.turn;
 }
 
--- from an open end to another stage
+-- from an open endpoint to another stage
 pub goes_from : (e : EndView) (t : Tags) (g i : Stage) → e.phase ≡ Open t g → IsPath (Open t g) (Open t i) → IsPlainTurn e.phase (Open t i)
 goes_from e t g i is p = subst (λ (h : Phase). IsPlainTurn h (Open t i)) (sym is) (Goes t g i p)
 
@@ -92,13 +92,13 @@ plain_rested e = rested_cases (IsPlain e) e (plain_same e)
     (λ t is d. record { configuration = refl; role = refl; moment = refl; terms = refl; turn = goes_from e t ShutdownPending ShutdownSent is (by_stage t ShutdownPending ShutdownSent Says) })
     (λ t is d. record { configuration = refl; role = refl; moment = refl; terms = refl; turn = goes_from e t ShutdownReceived ShutdownAckSent is (by_stage t ShutdownReceived ShutdownAckSent Answers) })
 
--- an end at rest has its association still
+-- an endpoint at rest has its association still
 pub rested_has : (e : EndView) → has_association e.phase ≡ true → has_association (rested e).phase ≡ true
 rested_has e has = rested_cases (λ (t : EndView). has_association t.phase ≡ true) e has (λ t is d. refl) (λ t is d. refl)
 
 -- ---- chunks
 
--- What a chunk leaves that goes on: a plain turn, or an INIT ACK was accepted, or a COOKIE ACK came.
+-- What a chunk leaves that goes on: a plain turn, or an INIT ACK was accepted, or a COOKIE ACK arrived.
 pub data IsLeft (e : EndView) (x : ChunkMeaning) : EndView → Type 0 where
   Plainly : (t : EndView) → IsPlain e t → (has_association e.phase ≡ true → has_association t.phase ≡ true) → IsLeft e x t
   Accepts : (m : InitMeaning) (d : Draw) (cookie : List ℕ) → x ≡ InitAck m → e.phase ≡ Calling d → value_of STATE_COOKIE m.parameters ≡ Some cookie →

@@ -1,4 +1,4 @@
--- Time and the user turn an end plainly too.
+-- Time and the user turn an endpoint plainly too.
 use Rattle.std.proofs.Common.{◌≡◌, ℕ, ◌⊎◌, inl, inr, not, ◌||◌, ◌==◌, Bool, true, false, List, [], ◌∷◌, Option, Some, None, refl, sym, subst}
 use Rattle.sctp_model.specs.world.Calls.{Call}
 use Rattle.sctp_model.specs.receiver.ReceiverView.{Handed}

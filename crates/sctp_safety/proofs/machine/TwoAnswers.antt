@@ -1,4 +1,4 @@
--- An INIT that comes twice, and is answered twice: step by step, computed from the definitions (RFC 9260, 5.2.3).
+-- An INIT that arrives twice, and is answered twice: step by step, computed from the definitions (RFC 9260, 5.2.3).
 use Rattle.std.proofs.Common.{ℕ, ◌<◌, false, List, [], ◌∷◌, ◌++◌, Some, inl, inr, refl, arith}
 use Rattle.sctp_model.specs.numbers.Lists.{Has}
 use Rattle.sctp_model.specs.numbers.Numbers.{u16_bytes, u32_bytes, u16_at, u32_at}
@@ -33,7 +33,7 @@ v5 = record w4 { draw = of_c }
 abbrev v6 : World
 v6 = with_verdict (came v5 B (end_now v5 B)) B (stray_verdict (end_now v5 B) of_c packet_1)
 
--- the second answer comes first
+-- the second answer arrives first
 abbrev cookie : List ℕ
 cookie = numbers (body_for (end_now v5 B) of_c init_meaning)
 

@@ -1,4 +1,4 @@
--- What the two ends put between them keeps every fact: chunks with data, FORWARDs, SACKs and SHUTDOWNs.
+-- What the two endpoints put between them keeps every fact: chunks with data, FORWARDs, SACKs and SHUTDOWNs.
 use Rattle.std.proofs.Common.{◌≡◌, ℕ, ◌<◌, ◌≤◌, true, ◌∷◌, length, inl, inr, refl, sym, subst, ap, arith}
 use Rattle.sctp_model.specs.numbers.Lists.{Has}
 use Rattle.sctp_model.specs.messages.Plan.{Message}

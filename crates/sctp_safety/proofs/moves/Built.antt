@@ -1,4 +1,4 @@
--- What the ends really build, the moves allow.
+-- What the endpoints really build, the moves allow.
 use Rattle.std.proofs.Common.{◌≡◌, ℕ, zero, suc, ◌+◌, ◌≤◌, ◌⊎◌, ◌&&◌, true, nat_le, List, [], ◌∷◌, inl, inr, refl, sym, subst, arith, leb-true}
 use Rattle.std.proofs.lemmas.Bool.{or_cases, and_parts}
 use Rattle.sctp_model.specs.numbers.Lists.{Has}

@@ -12,7 +12,7 @@ use Rattle.sctp_model.specs.world.Calls.{Asked, call_at}
 use Rattle.sctp_model.specs.world.Safe.{IsRising, AreDifferent, IsSent, WasHanded, IsGivenUp}
 use Rattle.sctp_safety.specs.Way.{Way}
 
--- the receiver is done with the number, where there is one
+-- the receiver is done with the number, if there is one
 abbrev pub IsDone : Format → ReceiverView → Lane → ℕ → Type 0
 IsDone f r l n = (is_numbered f l.kind ≡ false) ⊎ ((n < r.skip l) ⊎ ((l.kind ≡ Ordered) × (n < r.next l.stream)))
 
@@ -49,17 +49,17 @@ pub record IsSettled (f : Format) (a : SenderView) (r : ReceiverView) (i : ℕ) 
   pub here : entry_at a.plan i ≡ Some (Part lane number fragment)
   pub state : Has r.kept (piece_of f i lane number fragment message) ⊎ IsOver f a r lane number
 
--- every fragment of the message came
+-- every fragment of the message arrived
 pub record IsAllSeen (p : Plan) (r : ReceiverView) (l : Lane) (n : ℕ) : Type 0 where
   pub message : Message
   pub named : message_at p l n ≡ Some message
   pub seen : (k : ℕ) → k < length message.fragments → (i : ℕ) × (entry_at p i ≡ Some (Part l n k)) × (r.seen i ≡ true)
 
--- the message may be passed over where it isn't whole
+-- the message may be passed over if it isn't whole
 abbrev pub MayPass : SenderView → ReceiverView → Lane → ℕ → Type 0
 MayPass a r l n = (a.abandoned l n ≡ true) ⊎ IsAllSeen a.plan r l n
 
--- an unordered chunk at this index may be let go where its message isn't whole
+-- an unordered chunk at this index may be let go if its message isn't whole
 pub record IsRetired (a : SenderView) (r : ReceiverView) (i : ℕ) : Type 0 where
   pub lane : Lane
   pub number : ℕ
@@ -93,7 +93,7 @@ pub record IsOrderedPlan (f : Format) (p : Plan) : Type 0 where
   pub ended : (i : ℕ) (l : Lane) (n : ℕ) (m : Message) → entry_at p i ≡ Some (End l n) → IsComplete p l n m → ⊥
   pub consecutive : f ≡ Plain → (j : ℕ) (l : Lane) (n k : ℕ) → entry_at p j ≡ Some (Part l n (suc k)) → entry_at p (j - 1) ≡ Some (Part l n k)
   pub complete : f ≡ Plain → (l : Lane) (n : ℕ) (m : Message) → message_at p l n ≡ Some m → IsComplete p l n m
-  -- two messages of a stream: the one with the lower ticket stands before, and takes no further index
+  -- two messages of a stream: the one with the lower ticket is before the other, and takes no further index
   pub order : (i j : ℕ) (d e : Entry) (l k : Lane) (n o : ℕ) (m x : Message) →
       entry_at p i ≡ Some d → IsOf l n d → message_at p l n ≡ Some m →
       entry_at p j ≡ Some e → IsOf k o e → message_at p k o ≡ Some x →
@@ -130,7 +130,7 @@ pub record IsAskedPlan (streams : ℕ) (a : SenderView) (u : Asked) : Type 0 whe
   pub abandoned : (l : Lane) (n : ℕ) → a.abandoned l n ≡ true → (m : Message) × (message_at a.plan l n ≡ Some m) × IsGivenUp a u l n m
   pub ended : (i : ℕ) (l : Lane) (n : ℕ) → entry_at a.plan i ≡ Some (End l n) → a.abandoned l n ≡ true
 
--- What lies between the two ends, and what the sender took from there.
+-- What lies between the two endpoints, and what the sender took from there.
 pub record Between (w : Way) : Type 0 where
   pub pieces : (x : Piece) → Has w.pieces x → IsFragment w.format w.sender.plan x
   pub forwards : (x : Forward) → Has w.forwards x → IsSendersForward w.format w.sender w.receiver x
@@ -139,13 +139,13 @@ pub record Between (w : Way) : Type 0 where
   pub covered : (i : ℕ) → w.sender.covered i ≡ true → Reaches w.receiver i
   pub cum : (i : ℕ) → i ≤ w.sender.cum → Reaches w.receiver i
 
--- a message handed over is one of the plan, on this stream
+-- a message delivered is one of the plan, on this stream
 pub record IsHonest (f : Format) (p : Plan) (s : ℕ) (h : Handed) : Type 0 where
   pub sent : IsSent p h.lane h
   pub stream : h.lane.stream ≡ s
   pub counted : is_numbered f h.lane.kind ≡ true → h.number ≡ Some sent.number
 
--- What is handed over.
+-- What is delivered.
 pub record IsHandedRightly (f : Format) (a : SenderView) (r : ReceiverView) : Type 0 where
   pub all_seen : (l : Lane) (n : ℕ) → WasHanded a.plan r l n → IsAllSeen a.plan r l n
   pub below : (s : ℕ) (h : Handed) → Has (handed r s) h → h.lane.kind ≡ Ordered → IsNumberBelow (r.next s) h.number

@@ -17,7 +17,7 @@ module _ (w : Way) (x : Forward) (g : Good w) (gone : IsAllAbandoned w.sender w.
     (listed : (y : Skip) → Has x.skips y → (is_numbered w.format y.lane.kind ≡ true) × StandsIn w.sender.plan w.sender.cum x.point y.lane y.number)
     (each : (l : Lane) (n : ℕ) → is_numbered w.format l.kind ≡ true → StandsIn w.sender.plan w.sender.cum x.point l n →
     (y : Skip) × Has x.skips y × (y.lane ≡ l) × (n ≤ y.number)) where
-  -- each index up to the acknowledged one came, or is lost
+  -- each index up to the acknowledged one arrived, or is lost
   came : (i : ℕ) → 0 < i → i ≤ w.sender.cum → (w.receiver.seen i ≡ true) ⊎ IsLost w.format w.sender w.receiver i
   came i pos l = go (g.between.cum i l)
     where
@@ -25,7 +25,7 @@ module _ (w : Way) (x : Forward) (g : Good w) (gone : IsAllAbandoned w.sender w.
       go (inl h) = inl h
       go (inr h) = g.held.jumped i pos h
 
-  -- each index up to the point came, or will be lost by this FORWARD
+  -- each index up to the point arrived, or will be lost by this FORWARD
   upto : (i : ℕ) → 0 < i → i ≤ x.point → (w.receiver.seen i ≡ true) ⊎ IsLostBy w.format w.sender w.receiver x.skips i
   upto i pos l = go (cases_lt w.sender.cum i)
     where
@@ -56,7 +56,7 @@ module _ (w : Way) (x : Forward) (g : Good w) (gone : IsAllAbandoned w.sender w.
       go (inl h) = new h (gone i h l)
       go (inr h) = old (came i pos h)
 
-  -- an index up to the point came, or its message is abandoned
+  -- an index up to the point arrived, or its message is abandoned
   settled_upto : (i : ℕ) (l : Lane) (n : ℕ) (e : Entry) → entry_at w.sender.plan i ≡ Some e → IsOf l n e → i ≤ x.point →
       (w.receiver.seen i ≡ true) ⊎ (w.sender.abandoned l n ≡ true)
   settled_upto i l n e here of below = go (upto i (item_at-above w.sender.plan.entries i e here) below)
@@ -65,7 +65,7 @@ module _ (w : Way) (x : Forward) (g : Good w) (gone : IsAllAbandoned w.sender w.
       go (inl h) = inl h
       go (inr h) = inr (same_gone w.sender l h.lane n h.number (one_entry w.sender.plan i l h.lane n h.number e h.entry here of h.here h.of) h.gone)
 
-  -- a message whose fragments all came, but where it is abandoned
+  -- a message whose fragments all arrived, unless it is abandoned
   all_seen : (l : Lane) (n : ℕ) (m : Message) → message_at w.sender.plan l n ≡ Some m →
       ((k : ℕ) → k < length m.fragments →
       ((i : ℕ) × (entry_at w.sender.plan i ≡ Some (Part l n k)) × (w.receiver.seen i ≡ true)) ⊎ (w.sender.abandoned l n ≡ true)) →
@@ -122,7 +122,7 @@ module _ (w : Way) (x : Forward) (g : Good w) (gone : IsAllAbandoned w.sender w.
           let (y, named) = slice_get-below (w.sender.plan.messages l) n m message.0 message.1 less in
           lower y named less (g.arranged.closed l l n m y message.0 named message.1 refl (g.arranged.rising l n m y message.0 named message.1 less))
 
-  -- Under DATA an index up to the point belongs to an unordered message that may be let go, where the point is still ahead.
+  -- Under DATA an index up to the point belongs to an unordered message that may be let go, if the point is still ahead.
   retired : w.format ≡ Plain → IsAhead w.receiver x.point → (i : ℕ) → 0 < i → i ≤ x.point → IsRetired w.sender w.receiver i
   retired plain (j, near, not_yet) i pos l = go (cases_lt w.sender.cum i)
     where

@@ -1,4 +1,4 @@
--- Chunks go, and messages are handed over or passed over.
+-- Chunks go, and messages are delivered or passed over.
 use Rattle.std.proofs.Common.{◌≡◌, ℕ, ◌<◌, ◌≤◌, ◌⊎◌, true, List, [], ◌∷◌, ◌++◌, Some, inl, inr, refl, sym, subst, ap, le_refl, append_assoc}
 use Rattle.sctp_model.specs.numbers.Lists.{Has, IsWithin, at}
 use Rattle.sctp_model.specs.messages.Format.{Format, Ordered, Lane, ordered_lane}
@@ -35,7 +35,7 @@ apart_push (x ∷ xs) h r other = (λ y k. first y (Has-push xs h y k), apart_pu
 abbrev pub after : ReceiverView → List Piece → (ℕ → ℕ) → (ℕ → List Handed) → ReceiverView
 after r kept next waiting = record r { kept = kept; next = next; waiting = waiting }
 
--- Chunks that go are of messages that are over, and those that stay aren't of a message handed over.
+-- Chunks that go are of messages that are over, and those that stay aren't of a message delivered.
 module _ (f : Format) (a : SenderView) (r : ReceiverView) (kept : List Piece) (next : ℕ → ℕ) (waiting : ℕ → List Handed)
     (forth : (s : ℕ) → r.next s ≤ next s) where
   abbrev then : ReceiverView
@@ -60,7 +60,7 @@ module _ (f : Format) (a : SenderView) (r : ReceiverView) (kept : List Piece) (n
     told = told;
   }
 
--- Nothing more is handed over.
+-- Nothing more is delivered.
 pub same_told : (f : Format) (a : SenderView) (r : ReceiverView) (kept : List Piece) (next : ℕ → ℕ) → ((s : ℕ) → r.next s ≤ next s) → IsHandedRightly f a r →
     ((s n : ℕ) → n < next s → WasHanded a.plan r (ordered_lane s) n ⊎ (a.abandoned (ordered_lane s) n ≡ true)) → IsHandedRightly f a (after r kept next r.waiting)
 same_told f a r kept next forth told passed = record {
@@ -72,7 +72,7 @@ same_told f a r kept next forth told passed = record {
   passed = passed;
 }
 
--- One more message is handed over on stream s.
+-- One more message is delivered on stream s.
 module _ (f : Format) (a : SenderView) (r : ReceiverView) (kept : List Piece) (next : ℕ → ℕ) (s : ℕ) (x : Piece) (xs : List Piece)
     (one : IsOneMessage f a.plan x xs) (stream : x.lane.stream ≡ s) where
   abbrev new : Handed
@@ -84,7 +84,7 @@ module _ (f : Format) (a : SenderView) (r : ReceiverView) (kept : List Piece) (n
   abbrev told_more : ReceiverView
   told_more = after r kept next more_waiting
 
-  -- what is handed over on each stream now
+  -- what is delivered on each stream now
   on : (P : ℕ → List Handed → Type 0) → P s (handed r s ++ new ∷ []) → ((u : ℕ) → (u ≡ s → ⊥) → P u (handed r u)) → (u : ℕ) → P u (handed told_more u)
   on P here there u = at_cases (λ (hs : List Handed). P u (r.taken u ++ hs)) r.waiting s (r.waiting s ++ new ∷ []) u
       (λ e. subst (λ (y : ℕ). P y (r.taken y ++ (r.waiting s ++ new ∷ []))) (sym e)
@@ -120,7 +120,7 @@ module _ (f : Format) (a : SenderView) (r : ReceiverView) (kept : List Piece) (n
           let c : Part x.lane one.number 0 ≡ Part l n 0 = cc in
           inr (cc, cc)
 
-  -- Its chunks were kept, and wasn't handed over before; it is behind all ordered messages of the stream.
+  -- Its chunks were kept, and it wasn't delivered before; it is after all ordered messages of the stream.
   pub more_told : IsOrderedPlan f a.plan → Held f a r → IsWithin (x ∷ xs) r.kept → ((u : ℕ) → r.next u ≤ next u) →
       (x.lane.kind ≡ Ordered → (n : ℕ) × (x.number ≡ Some n) × (r.next s ≤ n) × (n < next s)) →
       ((u n : ℕ) → n < next u → WasHanded a.plan told_more (ordered_lane u) n ⊎ (a.abandoned (ordered_lane u) n ≡ true)) → IsHandedRightly f a told_more

@@ -82,7 +82,7 @@ module _ (p q : Plan) (more : Extends p q) where
   pub WasHanded-later : (r : ReceiverView) (l : Lane) (n : ℕ) → WasHanded p r l n → WasHanded q r l n
   WasHanded-later r l n (h, has, lane, here) = (h, has, lane, more.entries _ _ here)
 
-  -- a message handed over was in the plan before
+  -- a message delivered was in the plan before
   pub WasHanded-earlier : (f : Format) (r : ReceiverView) (l : Lane) (n : ℕ) →
       ((s : ℕ) (h : Handed) → Has (handed r s) h → IsHonest f p s h) → WasHanded q r l n → WasHanded p r l n
   WasHanded-earlier f r l n honest (h, has, lane, here) =
@@ -163,7 +163,7 @@ module _ (f : Format) (a b : SenderView) (r t : ReceiverView) (grows : Grows a b
     old = λ e ahead i l m. IsRetired-later i (h.old e (IsAhead-earlier r t learns x.point ahead) i l m);
   }
 
--- What was handed over stays so rightly where a receiver learns and hands nothing over.
+-- What was delivered stays right if a receiver learns and delivers nothing.
 pub told_later : (f : Format) (a : SenderView) (r : ReceiverView) (seen : ℕ → Bool) (jump : ℕ) (skip : Lane → ℕ) (kept : List Piece)
     → Learns r (record r { seen = seen; jump = jump; skip = skip; kept = kept }) → IsHandedRightly f a r
     → IsHandedRightly f a (record r { seen = seen; jump = jump; skip = skip; kept = kept })

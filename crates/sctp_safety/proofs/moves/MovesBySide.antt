@@ -1,4 +1,4 @@
--- A move of the sender, of the receiver, or of the bags keeps every fact where it says why some hold of what is new.
+-- A move of the sender, of the receiver, or of the bags keeps every fact if it says why some hold of what is new.
 use Rattle.std.proofs.Common.{◌≡◌, ℕ, ◌≤◌, ◌⊎◌, true, List, Some, inl, inr, subst}
 use Rattle.sctp_model.specs.numbers.Lists.{Has}
 use Rattle.sctp_model.specs.messages.Format.{Format, Lane, ordered_lane}

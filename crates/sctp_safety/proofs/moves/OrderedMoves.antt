@@ -1,4 +1,4 @@
--- The next ordered message of a stream is handed over, or its number is passed over.
+-- The next ordered message of a stream is delivered, or its number is passed over.
 use Rattle.std.proofs.Common.{◌≡◌, ℕ, suc, ◌<◌, ◌≤◌, ◌⊎◌, not, true, false, Bool, List, ◌∷◌, Some, inl, inr, refl, sym, subst, ap, arith, le_refl}
 use Rattle.std.proofs.lemmas.Bool.{cases_eq, cases_Bool, and_parts}
 use Rattle.sctp_model.specs.numbers.Lists.{Has, at}
@@ -71,7 +71,7 @@ module _ (w : Way) (s : ℕ) (g : Good w) where
       let i = e.1 in
       cc
 
-  -- each number below is handed over or abandoned, where the next one is
+  -- each number below is delivered or abandoned, if the next one is
   passed : (P : ℕ → ℕ → Type 0) → ((u n : ℕ) → n < r.next u → P u n) → P s (r.next s) → (u n : ℕ) → n < next u → P u n
   passed P before now u n = at_cases (λ (b : ℕ). n < b → P u n) r.next s (suc (r.next s)) u (λ e l. at_stream u e l (cases_eq n (r.next s))) (λ ne l. before u n l)
     where

@@ -1,4 +1,4 @@
--- What the receiver does with a chunk that comes: it keeps the data, or drops it.
+-- What the receiver does with a chunk that arrives: it keeps the data, or drops it.
 use Rattle.std.proofs.Common.{◌≡◌, ℕ, ◌<◌, ◌≤◌, ◌⊎◌, Bool, true, false, List, ◌∷◌, Some, inl, inr, refl, sym, subst, ap, arith, le_refl}
 use Rattle.std.proofs.lemmas.Bool.{cases_eq, cases_Bool}
 use Rattle.sctp_model.specs.numbers.Lists.{Has, at}

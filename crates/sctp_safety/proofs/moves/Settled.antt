@@ -21,7 +21,7 @@ pub all_numbered : (k : Kind) → is_numbered Interleaved k ≡ true
 all_numbered Ordered = refl
 all_numbered Unordered = refl
 
--- where the format numbers a lane, a chunk has its message's number
+-- if the format numbers a lane, a chunk has its message's number
 pub number_is : (f : Format) (p : Plan) (x : Piece) (y : IsFragment f p x) → is_numbered f x.lane.kind ≡ true → x.number ≡ Some y.number
 number_is f p x y e =
     let h : x.number ≡ number_of f x.lane y.number = ap (λ (z : Piece). z.number) y.same in
@@ -43,7 +43,7 @@ one_message f p x y l n e here of =
     let d : Part x.lane y.number y.fragment ≡ e = cc in
     subst (IsOf l n) (sym d) of
 
--- An index stays settled where each chunk stays kept, or its message is over.
+-- An index stays settled if each chunk stays kept, or its message is over.
 pub settled_on : (f : Format) (a : SenderView) (r t : ReceiverView) (i : ℕ) → Learns r t →
     ((x : Piece) (n k : ℕ) → Has r.kept x → entry_at a.plan x.index ≡ Some (Part x.lane n k) → Has t.kept x ⊎ IsOver f a t x.lane n) →
     ((l : Lane) (n : ℕ) → WasHanded a.plan r l n → WasHanded a.plan t l n) → IsSettled f a r i → IsSettled f a t i
@@ -65,7 +65,7 @@ settled_on f a r t i learns kept handed x = record {
     state (inr (inl h)) = inr (inl (handed x.lane x.number h))
     state (inr (inr h)) = inr (inr (h.0, IsDone-later f r t learns x.lane x.number h.1))
 
--- the fragment that stands at an index that was seen is kept, or its message is over
+-- the fragment at an index that was seen is kept, or its message is over
 pub settled_at : (f : Format) (a : SenderView) (r : ReceiverView) (i : ℕ) (l : Lane) (n k : ℕ) (m : Message) →
     entry_at a.plan i ≡ Some (Part l n k) → message_at a.plan l n ≡ Some m → IsSettled f a r i →
     Has r.kept (piece_of f i l n k m) ⊎ IsOver f a r l n
@@ -108,7 +108,7 @@ not_all_seen f a r x y arranged unseen all = no (all.seen y.fragment within)
         let h : r.seen i ≡ r.seen x.index = ap r.seen e in
         absurd (cc)
 
--- A message all of which was seen is over, where it isn't whole.
+-- A message all of which was seen is over, if it isn't whole.
 pub over_unless_whole : (f : Format) (a : SenderView) (r : ReceiverView) → IsOrderedPlan f a.plan → Held f a r → (l : Lane) (n : ℕ) →
     (x : IsAllSeen a.plan r l n) → (IsGathered f a.plan l n x.message r.kept → ⊥) → IsOver f a r l n
 over_unless_whole f a r arranged held l n x not_whole = go (each_or (length x.message.fragments) each)

@@ -14,7 +14,7 @@ use Rattle.sctp_safety.proofs.moves.Later.{Learns, Grows-refl, lost-later, IsRet
 use Rattle.sctp_safety.proofs.moves.MovesBySide.{by_receiver}
 use Rattle.sctp_safety.proofs.moves.Settled.{settled_on}
 
--- What is handed over stays the same, and so does all else but the duplicates.
+-- What is delivered stays the same, and so does all else but the duplicates.
 module _ (w : Way) (taken waiting : ℕ → List Handed) (duplicates : List ℕ) (resets : Incoming) where
   abbrev moved : ReceiverView
   moved = record w.receiver { taken = taken; waiting = waiting; duplicates = duplicates; resets = resets }

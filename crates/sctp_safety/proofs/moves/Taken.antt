@@ -1,4 +1,4 @@
--- A chunk that is taken is a list of moves: it is kept, and what is due is handed over number by number.
+-- A chunk that is taken is a list of moves: it is kept, and what is due is delivered number by number.
 use Rattle.std.proofs.Common.{◌≡◌, ℕ, zero, suc, ◌<◌, ◌⊎◌, ◌++◌, ◌∷◌, not, true, false, Bool, max, List, [], cond, filter, inl, inr, refl, sym, subst, ap, arith, append-nil, append_assoc, Some}
 use Rattle.std.proofs.lemmas.Bool.{cases_Bool}
 use Rattle.std.proofs.lemmas.Bool.Decides.{nat_tests}
@@ -60,7 +60,7 @@ row_same f x (z ∷ zs) (open_, follows, row) y h = go f follows h (row_same f z
     go Interleaved (l, n, i) (inl e) more = (subst (λ (u : Piece). u.lane ≡ x.lane) e l, subst (λ (u : Piece). u.number ≡ x.number) e n)
     go Interleaved (l, n, i) (inr k) more = let m = more k in (let a = m.0 in cc, let c = m.1 in cc)
 
--- a chunk of this number stays where what is below it goes
+-- a chunk of this number stays if what is below it goes
 stays : (s n : ℕ) (y : Piece) → y.number ≡ Some n → not (is_below s n y) ≡ true
 stays s n y e = go (cases_Bool (is_number_below n y.number))
   where
@@ -110,7 +110,7 @@ below_twice kept s n = filter_twice (λ (y : Piece). not (is_below s (suc n) y))
 
 -- ---- what is due
 
--- a stream where all below n is done with, and these messages were handed over
+-- a stream if all below n is done with, and these messages were delivered
 abbrev given : ReceiverView → ℕ → ℕ → List Handed → ReceiverView
 given r s n ms = record r { next = at r.next s n; waiting = at r.waiting s (r.waiting s ++ ms); kept = without_below r.kept s n }
 
@@ -159,7 +159,7 @@ due_is_moves w r s n m ms done (Past k l zs within none more) =
     here = subst (λ (u : ℕ). HasNoWhole w.format (without_below r.kept s n) (ordered_lane s) u) (sym (at_same r.next s n))
         (none_stays w.format r.kept s n none)
 
--- what is due on a stream is handed over by moves
+-- what is due on a stream is delivered by moves
 pub giving_is_moves : (w : Way) (s : ℕ) (r t : ReceiverView) → GivesOrdered w.format s r t → Leads (with_receiver w r) (with_receiver w t)
 giving_is_moves w s r t (ms, n, due, e) =
     leads_on (with_receiver w r) (with_receiver w (given r s (r.next s) [])) _

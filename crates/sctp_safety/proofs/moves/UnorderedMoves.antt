@@ -1,4 +1,4 @@
--- An unordered message is handed over, or a chunk that a FORWARD leaves behind goes.
+-- An unordered message is delivered, or a chunk that a FORWARD passes goes.
 use Rattle.std.proofs.Common.{◌≡◌, ℕ, ◌<◌, ◌≤◌, ◌⊎◌, not, ◌==◌, Bool, true, false, List, [], ◌∷◌, length, Some, inl, inr, refl, sym, subst, ap, ◌∙◌, filter, arith, le_refl, eqb-true}
 use Rattle.std.proofs.lemmas.Bool.{cases_Bool, and_parts, or_cases, eq-eqb}
 use Rattle.sctp_model.specs.numbers.Lists.{Has}
@@ -148,7 +148,7 @@ kept_by-Hand_unordered w v x xs g (kind, whole, within, e) = subst Good (sym e)
             let z : not true ≡ true = subst (λ (b : Bool). not b ≡ true) b d in
             absurd (cc)
 
--- A chunk that a FORWARD leaves behind is of a message that is over, where it isn't whole.
+-- A chunk that a FORWARD passes is of a message that is over, if it isn't whole.
 module _ (f : Format) (a : SenderView) (r : ReceiverView) (arranged : IsOrderedPlan f a.plan) (held : Held f a r) (x : Piece) (has : Has r.kept x) where
   abbrev u : IsFragment f a.plan x
   u = held.kept x has

@@ -1,4 +1,4 @@
--- What stands at an index of the plan, and what is said of the message that it is of.
+-- What is at an index of the plan, and what is said of the message that it is of.
 use Rattle.std.proofs.Common.{◌≡◌, ℕ, zero, suc, ◌+◌, ◌-◌, ◌<◌, ◌≤◌, true, List, [], ◌∷◌, slice_get, Some, refl, sym, subst, arith}
 use Rattle.sctp_model.specs.messages.Format.{Format, Plain, Lane}
 use Rattle.sctp_model.specs.messages.Plan.{Entry, Part, End, Plan, entry_at, IsOf}
@@ -10,7 +10,7 @@ pub IsOf_same : (l k : Lane) (n m : ℕ) (e : Entry) → IsOf l n e → IsOf k m
 IsOf_same l k n m (Part u v j) a b = (cc, cc)
 IsOf_same l k n m (End u v) a b = (cc, cc)
 
--- the messages of two entries that stand at one place
+-- the messages of two entries that are at one place
 pub one_entry : (p : Plan) (i : ℕ) (l k : Lane) (n m : ℕ) (d e : Entry) → entry_at p i ≡ Some d → IsOf l n d → entry_at p i ≡ Some e → IsOf k m e → (l ≡ k) × (n ≡ m)
 one_entry p i l k n m d e hd od he oe = IsOf_same l k n m e (let h : d ≡ e = cc in subst (λ (y : Entry). IsOf l n y) h od) oe
 
@@ -33,7 +33,7 @@ slice_get-below [] n (suc m) x h l = absurd (cc)
 slice_get-below (z ∷ xs) zero (suc m) x h l = (z, refl)
 slice_get-below (z ∷ xs) (suc n) (suc m) x h l = slice_get-below xs n m x h (omega arith)
 
--- the first fragment of a message stands before the others
+-- the first fragment of a message is before the others
 first_below : (f : Format) (p : Plan) → IsOrderedPlan f p → (l : Lane) (n k x i : ℕ) →
     entry_at p x ≡ Some (Part l n 0) → entry_at p i ≡ Some (Part l n k) → x ≤ i
 first_below f p g l n zero x i hx hi = let e : x ≡ i = g.once x i l n 0 hx hi in omega arith

@@ -11,7 +11,7 @@ use Rattle.sctp_model.specs.messages.Whole.{IsFirst, Follows, IsRow, text_of}
 use Rattle.sctp_safety.proofs.lists.Basics.{item_at-above}
 use Rattle.sctp_safety.proofs.moves.Facts.{IsOrderedPlan}
 
--- What framing stands on: a fragment is one of its message, it has one index, and under DATA indexes are consecutive.
+-- What framing rests on: a fragment is one of its message, it has one index, and under DATA indexes are consecutive.
 pub record IsFramed (f : Format) (p : Plan) : Type 0 where
   pub within : (i : ℕ) (l : Lane) (n k : ℕ) → entry_at p i ≡ Some (Part l n k) →
       (m : Message) × (message_at p l n ≡ Some m) × (k < length m.fragments)
@@ -203,7 +203,7 @@ module _ (f : Format) (p : Plan) (l : Lane) (n : ℕ) (m : Message) where
       go (inl e) more = (x, inl refl, subst (λ (i : ℕ). IsPart f p l n m i x) e h)
       go (inr ne) more = let r = more (omega arith) in (r.0, inr r.1, r.2)
 
-  -- the chunks from the k-th fragment on, where each is in a list
+  -- the chunks from the k-th fragment on, if each is in a list
   pub gather : (kept : List Piece) → ((k : ℕ) → k < length m.fragments → (y : Piece) × Has kept y × IsPart f p l n m k y) →
       (d k : ℕ) → k + d ≡ length m.fragments → (xs : List Piece) × AreFrom f p l n m k xs × IsWithin xs kept
   gather kept each zero k e = ([], omega arith, λ y h. absurd h)

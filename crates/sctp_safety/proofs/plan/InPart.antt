@@ -16,7 +16,7 @@ use Rattle.sctp_safety.proofs.lists.Basics.{same_lane-true}
 use Rattle.sctp_safety.proofs.plan.PlanLemmas.{message_of, assigned_below, renamed}
 use Rattle.sctp_safety.proofs.plan.Searches.{IsLatestIn, latest_is, latest_none}
 
--- an end mark stands behind every fragment of its message
+-- an end mark is after every fragment of its message
 abbrev pub AreEndsLast : Plan → Type 0
 AreEndsLast p = (i j : ℕ) (l : Lane) (n k : ℕ) → entry_at p i ≡ Some (Part l n k) → entry_at p j ≡ Some (End l n) → i < j
 
@@ -31,7 +31,7 @@ by_tickets {P} a b low one high = by_test (cases_Bool (nat_lt a b)) (cases_eq a 
     by_test (inr ge) (inl same) = one same
     by_test (inr ge) (inr other) = high (grind (arith, ge, other, nat_tests))
 
--- A message of a stream is closed where that of the last entry is: with a lower ticket it was before; a higher ticket would have an entry behind.
+-- A message of a stream is closed if that of the last entry is: with a lower ticket it was before; a higher ticket would have an entry after it.
 closed_with_last : (f : Format) (p : Plan) → IsOrderedPlan f p → (s : ℕ) (e : Entry) → IsLatestIn p s e → IsClosed p (entry_lane e) (entry_number e) → IsAllClosed p s
 closed_with_last f p a s e r done l n m on named =
     by_tickets m.ticket newest.0.ticket
@@ -59,11 +59,11 @@ complete_to f p a i l n k m here named all = (named, each)
         let place : k ≡ j + (k - j) = omega (arith, low, all) in
         assigned_below f p a l n j (k - j) (i, subst (λ (x : ℕ). entry_at p i ≡ Some (Part l n x)) place here)
 
--- the test of what comes behind a fragment, for its message
+-- the test of what is after a fragment, for its message
 behind_part : (p : Plan) (l : Lane) (n k : ℕ) (m : Message) (o : Option Entry) → message_at p l n ≡ Some m → next_part p (Part l n k) ≡ o → when (nat_lt (suc k) (length m.fragments)) (Part l n (suc k)) ≡ o
 behind_part p l n k m o named is = subst (λ (x : Option Message). when (nat_lt (suc k) (length (fragments_in x))) (Part l n (suc k)) ≡ o) named is
 
--- Where a stream has nothing to go on with, all its messages are closed.
+-- If a stream has nothing to go on with, all its messages are closed.
 pub idle_closed : (f : Format) (p : Plan) → IsOrderedPlan f p → (s : ℕ) → continued p s ≡ None → IsAllClosed p s
 idle_closed f p a s idle = by_last (latest s p.entries) refl idle
   where
@@ -78,7 +78,7 @@ idle_closed f p a s idle = by_last (latest s p.entries) refl idle
 
 -- ---- a stream with a message in part
 
--- Where a stream goes on, the message in part may take this fragment.
+-- If a stream goes on, the message in part may take this fragment.
 pub record GoesOnWith (p : Plan) (s : ℕ) (e : Entry) : Type 0 where
   pub lane : Lane
   pub number : ℕ
@@ -92,7 +92,7 @@ pub record GoesOnWith (p : Plan) (s : ℕ) (e : Entry) : Type 0 where
   pub no_end : HasEnd p lane number → ⊥
   pub bound : suc fragment < length message.fragments
 
--- the last entry of the stream is the fragment before it: neither a further one nor an end mark stands behind
+-- the last entry of the stream is the fragment before it: neither a further one nor an end mark is after it
 goes_from : (f : Format) (p : Plan) → IsOrderedPlan f p → AreEndsLast p → (s : ℕ) (e : Entry) (l : Lane) (n k : ℕ) → IsLatestIn p s (Part l n k) → next_part p (Part l n k) ≡ Some e → GoesOnWith p s e
 goes_from f p a ends s e l n k r next = record {
   lane = l;
@@ -147,7 +147,7 @@ not_closed p s e g (inr (x, (named, each))) =
     let same : g.message ≡ x = cc in
     g.free (each (suc g.fragment) (subst (λ (y : Message). suc g.fragment < length y.fragments) same g.bound))
 
--- what its stream goes on with tells whether a message is in part
+-- what its stream goes on with says whether a message is in part
 pub in_part_open : (f : Format) (v : SenderView) → IsOrderedPlan f v.plan → AreEndsLast v.plan → (l : Lane) (n : ℕ) → is_in_part v l n ≡ true → IsClosed v.plan l n → ⊥
 in_part_open f v a ends l n in_part closed =
     let there = some_is (is_of l n) (continued v.plan l.stream) in_part in

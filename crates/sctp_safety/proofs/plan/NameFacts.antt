@@ -32,7 +32,7 @@ self_same n = grind (arith, nat_tests)
 
 -- ---- the search for a ticket
 
--- where nothing is found, nothing passes
+-- if nothing is found, nothing passes
 none_found : {A : Type 0} (test : A → Bool) (xs : List A) → find test xs ≡ None → (j : ℕ) (x : A) → slice_get xs j ≡ Some x → test x ≡ false
 none_found test [] none j x here = absurd (cc)
 none_found test (y ∷ xs) none j x here = by_test (test y) refl none j here (λ rest i there. none_found test xs rest i x there)
@@ -101,7 +101,7 @@ module _ (f : Format) (v : SenderView) (a : IsOrderedPlan f v.plan) where
 
 -- ---- what is covered
 
--- where none passes, each fails
+-- if none passes, each fails
 none_any : (test : ℕ → Entry → Bool) (i : ℕ) (es : List Entry) → any_from test i es ≡ false → (j : ℕ) (e : Entry) → slice_get es j ≡ Some e → test (i + j) e ≡ false
 none_any test i [] none j e here = absurd (cc)
 none_any test i (x ∷ es) none zero e here =

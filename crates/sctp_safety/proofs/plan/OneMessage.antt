@@ -101,7 +101,7 @@ one_when_kept f p framed l n m named some kept all each =
             let q : r.0 ≡ y = cc in
             subst (Has (x ∷ xs)) q r.1
 
--- Where each fragment is kept, the message is whole.
+-- If each fragment is kept, the message is whole.
 pub whole_when_kept : (f : Format) (p : Plan) → IsOrderedPlan f p → (l : Lane) (n : ℕ) (m : Message) → message_at p l n ≡ Some m →
     (kept : List Piece) → ((y : Piece) → Has kept y → IsFragment f p y) →
     ((k : ℕ) → k < length m.fragments → (i : ℕ) × (entry_at p i ≡ Some (Part l n k)) × Has kept (piece_of f i l n k m)) →

@@ -13,7 +13,7 @@ Has-index [] k d b = absurd (omega arith)
 Has-index (x ∷ xs) zero d b = inl refl
 Has-index (x ∷ xs) (suc k) d b = inr (Has-index xs k d (omega arith))
 
--- something stands at a place of a list, or nothing
+-- something is at a place of a list, or nothing
 get_cases : {A : Type 0} (xs : List A) (n : ℕ) → ((x : A) × (slice_get xs n ≡ Some x)) ⊎ ((x : A) → slice_get xs n ≡ Some x → ⊥)
 get_cases xs n = go (slice_get xs n)
   where
@@ -30,7 +30,7 @@ three_cases m n = go (cases_lt m n) (cases_lt n m)
     go (inr h) (inr e) = inr (inr (omega arith))
 
 module _ (f : Format) (p : Plan) (a : IsOrderedPlan f p) where
-  -- of two messages of a stream, the one with the lower ticket stands before
+  -- of two messages of a stream, the one with the lower ticket is before the other
   before : (l k : Lane) (n o : ℕ) (m x : Message) → message_at p l n ≡ Some m → message_at p k o ≡ Some x → l.stream ≡ k.stream →
       m.ticket < x.ticket → IsBefore p l n k o
   before l k n o m x hm hx s lt i j d e hd od he oe = a.order i j d e l k n o m x hd od hm he oe hx s lt

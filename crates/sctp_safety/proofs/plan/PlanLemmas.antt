@@ -1,10 +1,10 @@
--- What an ordered plan says of its entries: what stands in a run of fragments, of which message an entry is.
+-- What an ordered plan says of its entries: what is in a run of fragments, of which message an entry is.
 use Rattle.std.proofs.Common.{◌≡◌, ℕ, zero, suc, ◌+◌, ◌<◌, slice_get, Some, subst, arith}
 use Rattle.sctp_model.specs.messages.Format.{Format, Lane}
 use Rattle.sctp_model.specs.messages.Plan.{Message, Entry, Part, End, Plan, entry_at, message_at, IsOf, IsAssigned, parts_from}
 use Rattle.sctp_safety.proofs.moves.Facts.{IsOrderedPlan}
 
--- what stands in a run of fragments
+-- what is in a run of fragments
 pub parts_get : (l : Lane) (n k d j : ℕ) (e : Entry) → slice_get (parts_from l n k d) j ≡ Some e → (j < d) × (Part l n (k + j) ≡ e)
 parts_get l n k zero j e h = absurd (cc)
 parts_get l n k (suc d) zero e h = let z : k + 0 ≡ k = omega arith in (omega arith, cc)

@@ -1,4 +1,4 @@
--- What waits for a number, when a call comes, and when a message leaves.
+-- What waits for a number, when a call is made, and when a message leaves.
 use Rattle.std.proofs.Common.{◌≡◌, ℕ, suc, ◌<◌, ◌≤◌, ◌⊎◌, List, [], ◌∷◌, ◌++◌, length, Some, inl, inr, refl, subst, arith}
 use Rattle.sctp_model.specs.numbers.Lists.{Has, item_at}
 use Rattle.sctp_model.specs.messages.Format.{Lane}
@@ -16,7 +16,7 @@ IsQueue-push (y ∷ qs) q h last = (λ x z. pick x (Has-push qs q x z), IsQueue-
     pick x (inl z) = h.0 x z
     pick x (inr e) = subst (λ (c : Queued). y.message.ticket < c.message.ticket) e (last y (inl refl))
 
--- what stands before a message has a lower ticket, and what stands behind it a higher one
+-- what is before a message has a lower ticket, and what is after it a higher one
 pub queue_around : (before : List Queued) (q : Queued) (rest : List Queued) → IsQueue (before ++ q ∷ rest) →
     ((x : Queued) → Has before x → x.message.ticket < q.message.ticket) × ((x : Queued) → Has rest x → q.message.ticket < x.message.ticket)
 queue_around [] q rest h = (λ x a. absurd a, h.0)

@@ -27,13 +27,13 @@ not_on s e d none same on =
     let equal : ((entry_lane e).stream == s) ≡ true = rw mine (self s) in
     cc (apart, equal)
 
--- where none is found, none is there
+-- if none is found, none is there
 none_on : (s : ℕ) (es : List Entry) → latest s es ≡ None → (i : ℕ) (d : Entry) → slice_get es i ≡ Some d → IsOn s d → ⊥
 none_on s [] none i d here on = cc
 none_on s (e ∷ es) none zero d here on = not_on s e d (of_none (latest s es) (when ((entry_lane e).stream == s) e) none).1 (cc) on
 none_on s (e ∷ es) none (suc i) d here on = none_on s es (of_none (latest s es) (when ((entry_lane e).stream == s) e) none).0 i d here on
 
--- the entry that is found stands on its stream, and none stands there behind it
+-- the entry that is found is on its stream, and none is there after it
 record IsLastOf (s : ℕ) (es : List Entry) (e : Entry) : Type 0 where
   place : ℕ
   here : slice_get es place ≡ Some e
@@ -85,7 +85,7 @@ latest_none p s none (suc i) d here on = none_on s p.entries none i d here on
 
 -- ---- the first message that is meant
 
--- it stands in the queue between some that aren't meant and some others, and is what the queue is left without
+-- it is in the queue between some that aren't meant and some others, and is what the queue is left without
 pub record IsFirstMeant (meant : Queued → Bool) (qs : List Queued) (q : Queued) : Type 0 where
   pub before : List Queued
   pub rest : List Queued
@@ -121,7 +121,7 @@ first_meant meant (x ∷ qs) q found = by_test (meant x) refl found (λ later. f
             none y (inl same) = subst (λ (z : Queued). meant z ≡ false) same off
             none y (inr has) = r.none y has
 
--- where one is meant, a first one is
+-- if one is meant, a first one is
 pub some_meant : (meant : Queued → Bool) (qs : List Queued) → list_any meant qs ≡ true → (q : Queued) × IsFirstMeant meant qs q
 some_meant meant qs any = let r = found qs any in (r.0, first_meant meant qs r.0 r.1)
   where

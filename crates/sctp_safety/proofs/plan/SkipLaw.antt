@@ -74,7 +74,7 @@ module _ (f : Format) (v : SenderView) (o : Orderly f v.plan) (c p : ℕ) (more 
   abbrev IsAllHere : Type 0
   IsAllHere = (k : ℕ) → k < length m.fragments → IsHere k ⊎ (v.abandoned l n ≡ true)
 
-  -- Where a higher number of the lane stands at an index that the FORWARD passes, all of this message stands before.
+  -- If a higher number of the lane is at an index that the FORWARD passes, all of this message is before it.
   under_number : (x : Piece) (q : ℕ) → Has kept x → entry_at v.plan x.index ≡ Some (Part l n q) →
       (top : ℕ) → n < top → StandsIn v.plan c p l top → IsAllHere
   under_number x q has mine top less (i, e, new, le, here, of) = by_closed closed
@@ -124,7 +124,7 @@ module _ (f : Format) (v : SenderView) (o : Orderly f v.plan) (c p : ℕ) (more 
           let low = before r.0 (Part l n k) r.1 (refl, refl) in
           up_to_point x q has mine r.0 k (omega arith) r.1
 
-  -- Under DATA the fragments from the first on take consecutive indexes: none lies past the point where one lies at or below CUM.
+  -- Under DATA the fragments from the first on take consecutive indexes: none lies past the point if one lies at or below CUM.
   under_index : f ≡ Plain → (x : Piece) (q : ℕ) → Has kept x → entry_at v.plan x.index ≡ Some (Part l n q) → x.index ≤ p → IsAllHere
   under_index plain x q has mine le k b = here (walk k r.0 r.1)
     where
@@ -163,7 +163,7 @@ module _ (f : Format) (v : SenderView) (o : Orderly f v.plan) (c p : ℕ) (more 
       here (inl low) = up_to_point x q has mine r.0 k (omega arith) r.1
       here (inr dead) = inr dead
 
-  -- where every fragment is kept, the kept chunk is among all chunks of its whole message
+  -- if every fragment is kept, the kept chunk is among all chunks of its whole message
   whole_or_gone : (x : Piece) (q : ℕ) → Has kept x → entry_at v.plan x.index ≡ Some (Part l n q) → IsAllHere →
       ((xs : List Piece) × IsWholeWith f kept x xs) ⊎ IsOfAbandoned v x.index
   whole_or_gone x q has mine all = go (each_or (length m.fragments) all)

@@ -18,9 +18,9 @@ there_is (x ∷ xs) (suc n) within = there_is xs n (omega (arith, within))
 pub lower_to : {A : Type 0} (xs : List A) (low high : ℕ) (x : A) → low ≤ high → slice_get xs high ≡ Some x → (y : A) × (slice_get xs low ≡ Some y)
 lower_to xs low high x below there = let within = slice_get-within xs high x there in there_is xs low (omega (arith, below, within))
 
--- ---- numbers that stand at places
+-- ---- numbers that are at places
 
--- Where higher numbers stand at higher places, and each number stands somewhere that has one above it, places are as far apart as numbers.
+-- If higher numbers are at higher places, and each number is somewhere that has one above it, places are as far apart as numbers.
 module _ (Stands : ℕ → ℕ → Type 0) (higher : (n o i j : ℕ) → n < o → Stands n i → Stands o j → i < j)
     (lower : (o j : ℕ) → Stands (suc o) j → (i : ℕ) × Stands o i) where
   pub places_apart : (steps n o i j : ℕ) → o ≡ n + suc steps → Stands n i → Stands o j → i + (o - n) ≤ j

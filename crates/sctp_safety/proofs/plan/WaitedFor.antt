@@ -30,7 +30,7 @@ module _ (f : Format) (a : SenderView) (r : ReceiverView) (s : ℕ) (held : Held
   unfinished (inr (inl skipped)) = omega (arith, skipped, waits.passed)
   unfinished (inr (inr (kind, below))) = omega (arith, below)
 
-  -- what was handed over in order has lower numbers
+  -- what was delivered in order has lower numbers
   untold : WasHanded a.plan r (ordered_lane s) (r.next s) → ⊥
   untold (h, has, lane, first) =
       let own = held.told.honest s h has in
@@ -108,7 +108,7 @@ module _ (f : Format) (a : SenderView) (r : ReceiverView) (s c w : ℕ) (arrange
 
 module _ (f : Format) (a : SenderView) (r : ReceiverView) (s : ℕ) (arranged : IsOrderedPlan f a.plan) (held : Held f a r)
     (known : (n : ℕ) → a.abandoned (ordered_lane s) n ≡ true → (m : Message) × (message_at a.plan (ordered_lane s) n ≡ Some m)) where
-  -- each was handed over or abandoned, so its message begins somewhere
+  -- each was delivered or abandoned, so its message begins somewhere
   pub begun_below : (n : ℕ) → n < r.next s → (i : ℕ) × (entry_at a.plan i ≡ Some (Part (ordered_lane s) n 0))
   begun_below n below = elim (held.told.passed s n below) [
     | inl handed ↦ (handed.0.first, handed.3)

@@ -1,4 +1,4 @@
--- Under both formats chunks of an orderly plan are whole exactly where they are all fragments of one message.
+-- Under both formats chunks of an orderly plan are whole exactly if they are all fragments of one message.
 use Rattle.std.proofs.Common.{◌≡◌, ℕ, zero, suc, ◌+◌, ◌<◌, List, [], ◌∷◌, length, slice_get, Some, refl, ap, sym, subst, arith}
 use Rattle.sctp_model.specs.numbers.Lists.{Has}
 use Rattle.sctp_model.specs.messages.Format.{Format, Lane}

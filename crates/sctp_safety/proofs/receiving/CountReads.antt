@@ -1,4 +1,4 @@
--- Where all that a stream will have for now is reached, the receiver has counted all of its messages: the next number of each lane is how many there are.
+-- If all that a stream will have for now is reached, the receiver has counted all of its messages: the next number of each lane is how many there are.
 use Rattle.std.proofs.Common.{◌≡◌, ℕ, zero, suc, ◌-◌, ◌<◌, ◌≤◌, ◌⊎◌, max, true, List, [], ◌∷◌, length, slice_get, Option, None, Some, inl, inr, refl, sym, subst, ap, arith, ◌∙◌}
 use Rattle.std.proofs.lemmas.Bool.{cases_lt, cond_both}
 use Rattle.sctp_model.specs.numbers.Lists.{Has}

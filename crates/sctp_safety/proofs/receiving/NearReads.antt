@@ -9,7 +9,7 @@ use Rattle.sctp_model.specs.messages.Framing.{as_number, wire_number, number_nea
 
 -- ---- TSNs
 
--- A TSN that lies ahead of that of c by less than half the space is read as its index, where the index itself lies no further away.
+-- A TSN that lies ahead of that of c by less than half the space is read as its index, if the index itself lies no further away.
 pub ahead_is : (initial c i : ℕ) → IsWithinHalf 32 i c → nat_le (half_space 32) (ahead 32 (tsn initial c) (tsn initial i)) ≡ false →
     c + ahead 32 (tsn initial c) (tsn initial i) ≡ i
 ahead_is initial c i near fresh = let above = near.not_above in let below = near.not_below in grind (arith, nat_tests, above, below, fresh)

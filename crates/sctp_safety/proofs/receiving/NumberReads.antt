@@ -56,7 +56,7 @@ module _ (w : Way) (g : Good w) (idle : IsIdle w.format w.receiver) where
   begun s Ordered numbered n less = begun_below w.format w.sender w.receiver s g.arranged g.held (known s) n less
   begun s Unordered numbered n less = begun_to_top w g s numbered n (omega (arith, less)) (omega (arith, less))
 
-  -- ---- what comes
+  -- ---- what arrives
 
   module _ (counted : IsCounted w.sender) (c : ℕ) (cumulative : IsCumulative w.receiver c) (l : Lane) (numbered : is_numbered w.format l.kind ≡ true) where
     abbrev reference : ℕ

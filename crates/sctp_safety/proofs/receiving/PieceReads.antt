@@ -1,4 +1,4 @@
--- A data chunk of the bag is read as its piece, whatever is answered to it, and what its answer leaves is moves.
+-- A data chunk of the bag is read as what it was built from, whatever is answered to it, and what its answer leaves is moves.
 use Rattle.std.proofs.Common.{◌≡◌, ℕ, ◌+◌, ◌<◌, ◌≤◌, ◌⊎◌, nat_le, true, false, [], Option, Some, None, inl, inr, refl, sym, subst, ap, arith, ◌∙◌}
 use Rattle.std.specs.Prelude.{if◌then◌else◌, option_map, ◌-◌, suc}
 use Rattle.std.proofs.lemmas.Bool.{cases_Bool}
@@ -55,7 +55,7 @@ based_past f r base c i l n cumulative past numbered b = elim (b.same numbered) 
   | inl reached ↦ absurd (cumulative.open_end (reached (suc c) (omega arith) (omega (arith, past))))
 ]
 
--- a chunk reads as its piece where its index and its number do
+-- a chunk reads as what it was built from if its index and its number do
 piece_reads : (f : Format) (r : ReceiverView) (c initial : ℕ) (base : Lane → ℕ) (i : ℕ) (l : Lane) (n k : ℕ) (m : Message) → index_at r c (tsn initial i) ≡ i →
     number_in f r l (number_said f base l n) ≡ number_of f l n →
     piece_at f r c (piece_said f initial base i (Part l n k) (Some m)) ≡ piece_of f i l n k m
@@ -85,7 +85,7 @@ module _ (w : Way) (p : PieceMeaning) (usual : IsUsual w) (joined : IsJoined w) 
   fragment : IsFragment w.format w.sender.plan x
   fragment = g.between.pieces x said.put
 
-  -- the number that the plan has at this index is the one that is said, where there is one
+  -- the number that the plan has at this index is the one that is said, if there is one
   same_number_said : is_numbered w.format said.lane.kind ≡ true → fragment.number ≡ said.number
   same_number_said e =
       let h : number_of w.format said.lane said.number ≡ number_of w.format said.lane fragment.number = ap (λ (y : Piece). y.number) fragment.same in

@@ -1,4 +1,4 @@
--- The SACK that a receiver makes may be put between the ends, and taking a message is a move.
+-- The SACK that a receiver makes may be put between the endpoints, and taking a message is a move.
 use Rattle.std.proofs.Common.{◌≡◌, ℕ, zero, suc, List, [], ◌∷◌, take, Some, None, inl, inr, refl, sym, subst, ap}
 use Rattle.sctp_model.specs.numbers.Limits.{BLOCK_LIMIT}
 use Rattle.sctp_model.specs.numbers.Lists.{Has}
@@ -11,7 +11,7 @@ use Rattle.sctp_safety.specs.ReceiverLaws.{IsReceived, SackMadeIsMoves, TakeIsMo
 use Rattle.sctp_safety.proofs.moves.Built.{sack_is_allowed}
 use Rattle.sctp_safety.proofs.moves.Taken.{leads_by}
 
--- what a SACK has room for is among all runs
+-- what a SACK has space for is among all runs
 among_all : {A : Type 0} (n : ℕ) (xs : List A) (x : A) → Has (take n xs) x → Has xs x
 among_all zero xs x there = absurd there
 among_all (suc n) [] x there = there

@@ -61,7 +61,7 @@ handed_has P l [] none each = none
 handed_has P l (h ∷ hs) none each =
     of_larger P (number_on l h.lane h.number) (largest_handed l hs) (on_lane_has P l h.lane h.number none (λ n. each h n (inl refl))) (handed_has P l hs none (λ y n there. each y n (inr there)))
 
--- ---- a stream's TOP, where unordered messages have numbers
+-- ---- a stream's TOP, if unordered messages have numbers
 
 module _ (w : Way) (g : Good w) (s : ℕ) (numbered : is_numbered w.format Unordered ≡ true) where
   abbrev r : ReceiverView
@@ -81,7 +81,7 @@ module _ (w : Way) (g : Good w) (s : ℕ) (numbered : is_numbered w.format Unord
   done_low n (inr (inl skipped)) = omega (arith, skipped)
   done_low n (inr (inr (kind, below))) = absurd (cc)
 
-  -- one that was handed over
+  -- one that was delivered
   handed_low : (n : ℕ) → WasHanded w.sender.plan r l n → n ≤ top r s
   handed_low n (h, has, lane, first) =
       let honest = g.held.told.honest s h has in
@@ -173,7 +173,7 @@ module _ (w : Way) (g : Good w) (s : ℕ) (numbered : is_numbered w.format Unord
 
   -- ---- how far the numbers of entries lie from it
 
-  -- Where all up to c is reached, whatever is of a message above it lies past c.
+  -- If all up to c is reached, whatever is of a message above it lies past c.
   pub not_far_above_top : (c d : ℕ) → ((i : ℕ) → 0 < i → i ≤ c → Reaches r i) → length w.sender.plan.entries ≤ c + d → (i n : ℕ) (e : Entry) → entry_at w.sender.plan i ≡ Some e → IsOf l n e →
       n ≤ top r s + d
   not_far_above_top c d reached window i n e here own = elim (cases_lt (top r s) n) [ inl above ↦ far above | inr low ↦ omega (arith, low) ]

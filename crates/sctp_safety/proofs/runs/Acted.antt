@@ -1,4 +1,4 @@
--- What a chunk of the peer does to an end that has met it.
+-- What a chunk of the peer does to an endpoint that has met it.
 use Rattle.std.proofs.Common.{◌≡◌, ℕ, Bool, true, false, ◌==◌, ◌&&◌, List, [], ◌∷◌, ◌++◌, length, inl, inr, refl, sym, subst, ap, ◌∙◌, eqb-true, is_some, if◌then◌else◌}
 use Rattle.std.specs.Prelude.{drop}
 use Rattle.std.proofs.lemmas.Bool.{and_parts}
@@ -41,11 +41,11 @@ use Rattle.sctp_safety.proofs.runs.Pair.{met_views, IsMet, AreViews, met_same}
 use Rattle.sctp_model.proofs.sender.HeardLaws.{heard_plan}
 use Rattle.sctp_model.specs.sender.SackTaken.{sack_taken, shutdown_taken}
 
--- an end that waits for an INIT ACK has agreed on nothing
+-- an endpoint that waits for an INIT ACK has agreed on nothing
 pub not_calling : (h : Phase) (d : Draw) → h ≡ Calling d → has_agreed h ≡ true → ⊥
 not_calling h d is agreed = let q : false ≡ true = subst (λ (k : Phase). has_agreed k ≡ true) is agreed in absurd (cc)
 
--- a chunk of the peer's that comes while it is young, at an end that has assigned so many TSNs
+-- a chunk of the peer's that arrives while it is young, at an endpoint that has assigned this many TSNs
 pub record Comes (p : EndView) (many : ℕ) (back : List Dated) (x : ChunkMeaning) : Type 0 where
   pub said : Dated
   pub has : Has back said
@@ -53,7 +53,7 @@ pub record Comes (p : EndView) (many : ℕ) (back : List Dated) (x : ChunkMeanin
   pub own : IsYoung said.date.own (length p.sender.plan.entries)
   pub there : IsYoung said.date.there many
 
--- both directions, at an end that has assigned so many TSNs: what comes assigns none
+-- both directions, at an endpoint that has assigned this many TSNs: what arrives assigns none
 pub record IsMetWith (many : ℕ) (e p : EndView) (u v : Asked) (out back : List Dated) : Type 0 where
   pub met : IsMet e p u v out back
   pub assigned : length e.sender.plan.entries ≡ many
@@ -73,7 +73,7 @@ module _ (p : EndView) (u v : Asked) (out back : List Dated) (many : ℕ) where
     assigned = ap (λ (q : Plan). length q.entries) same ∙ m.assigned;
   }
 
-  -- what a chunk says that comes
+  -- what a chunk says that arrives
   says : (e : EndView) (x : ChunkMeaning) → (m : Met e) (c : Comes p many back x) → IsSaid (format_of p) p.sender.initial p.sender e.receiver m.met.coming.bags c.said.date.own c.said.chunk →
       IsSaid (format_of p) p.sender.initial p.sender e.receiver m.met.coming.bags c.said.date.own x
   says e x m c h = subst (λ (y : ChunkMeaning). IsSaid (format_of p) p.sender.initial p.sender e.receiver m.met.coming.bags c.said.date.own y) c.same h
@@ -100,7 +100,7 @@ module _ (p : EndView) (u v : Asked) (out back : List Dated) (many : ℕ) where
       with_receiver e r m (after_skip (format_of p) p.terms.outbound p.sender v e.receiver back out m.met.coming c.said x o r c.has c.own (says e (IForwardTsn x) m c)
       (subst (λ (f : Format). ForwardTaken f e.receiver x o r) m.met.format taken))
 
-  -- young as long as the end has assigned no more
+  -- young as long as the endpoint has assigned no more
   young_here : (e : EndView) (x : ChunkMeaning) → Met e → (c : Comes p many back x) → IsYoung c.said.date.there (length e.sender.plan.entries)
   young_here e x m c = subst (IsYoung c.said.date.there) (sym m.assigned) c.there
 

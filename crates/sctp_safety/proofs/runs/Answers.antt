@@ -1,4 +1,4 @@
--- What an end answers to a packet, whoever sent it, opens an association or ends one: it says nothing of a direction.
+-- What an endpoint answers to a packet, whoever sent it, opens an association or ends one: it says nothing of a direction.
 use Rattle.std.proofs.Common.{◌≡◌, ℕ, ◌==◌, Bool, true, false, List, [], ◌∷◌, Option, Some, None, inl, inr, refl, subst, if◌then◌else◌}
 use Rattle.sctp_model.specs.wire.Chunk.{InitMeaning, ChunkMeaning, Data, IData, Init, InitAck, Sack, Heartbeat, HeartbeatAck, Abort, Shutdown, ShutdownAck, Error, CookieEcho, CookieAck, ShutdownComplete, ForwardTsn, IForwardTsn, Unknown}
 use Rattle.sctp_model.specs.wire.Packet.{Packet}
@@ -18,11 +18,11 @@ pub one_opening : (x : ChunkMeaning) → opens_or_ends x ≡ true → AreOpening
 one_opening x h y (inl e) = subst (λ (z : ChunkMeaning). opens_or_ends z ≡ true) e h
 one_opening x h y (inr k) = absurd k
 
--- what is told of a packet, if it is an answer, is an opening one
+-- the verdict on a packet, if it is an answer, is an opening one
 abbrev pub OpensOrEnds : Verdict → Type 0
 OpensOrEnds v = OfAnswer (λ r. AreOpening r.chunks) v
 
--- ---- an end that has an association
+-- ---- an endpoint that has an association
 
 pub reply_opens : (e : EndView) (tag : ℕ) (x : ChunkMeaning) (t : EndView) (r : Packet) → Acts e tag x (Replies t r) → AreOpening r.chunks
 reply_opens e tag (Data d) t r (PieceEmpty _ _ _ _ _) = one_opening _ refl
@@ -54,7 +54,7 @@ any_chunk tag = record {
   replies = λ e x t r q m act. (tt, reply_opens e tag x t r act);
 }
 
--- ---- an end that has none
+-- ---- an endpoint that has none
 
 of_init : (o : Option Sealing) (e : EndView) (d : Draw) (m : InitMeaning) → OpensOrEnds (init_verdict o e d m)
 of_init None e d m = one_opening _ refl
@@ -104,7 +104,7 @@ of_chunks e d tag (x ∷ xs) = go (holds_abort (x ∷ xs))
     go true = tt
     go false = of_first e d tag x
 
--- Whatever comes, the answer opens an association, or ends one.
+-- Whatever arrives, the answer opens an association, or ends one.
 pub answer_opens : (e : EndView) (d : Draw) (p : Packet) (t : EndView) (v : Verdict) → Arrives e d p t v → OpensOrEnds v
 answer_opens e d p t v (Elsewhere ports) = tt
 answer_opens e d p t v (NotOurs ports passes) = tt

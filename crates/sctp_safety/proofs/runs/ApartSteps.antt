@@ -1,4 +1,4 @@
--- Two ends that are apart stay apart, or meet: by `open`, or when the listener opens the cookie of what the caller has joined on.
+-- Two endpoints that are apart stay apart, or meet: by `open`, or when the listener opens the cookie of what the caller has joined on.
 use Rattle.std.proofs.Common.{◌≡◌, ℕ, max, true, false, List, [], ◌∷◌, drop, Option, Some, inl, inr, refl, sym, subst, arith, ◌⊎◌, Bool}
 use Rattle.sctp_model.specs.numbers.Lists.{Has, IsWithin, item_at}
 use Rattle.sctp_model.specs.wire.Chunk.{ChunkMeaning, CookieEcho}
@@ -50,7 +50,7 @@ has-drop [] y h = h
 has-drop (x ∷ xs) y h = inr h
 
 module _ (s : Setup) (drawn : List ℕ) (d : Dates) (w : World) (opening : IsOpening s drawn w) (set : AreSetUp s w) (k : IsApartWorld w) where
-  -- what stands behind a cookie in a packet of the caller's; the listener has assigned nothing yet
+  -- what is after a cookie in a packet of the caller's; the listener has assigned nothing yet
   pub behind_comes : (p q : Packet) (i : ℕ) → item_at w.from_a i ≡ Some q → IsYoungIn w A (d A i) → IsWithin p.chunks q.chunks → (y : ChunkMeaning) → Has (drop 1 p.chunks) y →
       Comes w.a 0 (dated_bag d w A) y
   behind_comes p q i there young within y h = record {
@@ -95,7 +95,7 @@ module _ (s : Setup) (drawn : List ℕ) (d : Dates) (w : World) (opening : IsOpe
           (k.ends A).moment (now_unmet w B k).moment (some_fragment s w A set) (some_fragment s w B set) (dated_opening d w A k) (dated_opening d w B k)
           (unmet_unclosed w.clock_a w.a (k.ends A)) begun_unclosed)
 
-  -- The listener opens a cookie of the caller's: the two have met, and what stands behind the cookie acts.
+  -- The listener opens a cookie of the caller's: the two have met, and what is after the cookie acts.
   meets : (p q : Packet) (i : ℕ) (b : Body) (t : EndView) (n : Notes) (gap : Bool) (v : Verdict) → item_at w.from_a i ≡ Some q → IsYoungIn w A (d A i) → IsWithin p.chunks q.chunks →
       IsFound (end_now w B) p.tag p.chunks b → AllAct p.tag (begun b (end_now w B)) (noted Unnoted no_notes) (drop 1 p.chunks) t n v → Before d w B (packet_ended (urged gap n) t)
   meets p q i b t n gap v there young within found acts =
@@ -112,9 +112,9 @@ module _ (s : Setup) (drawn : List ℕ) (d : Dates) (w : World) (opening : IsOpe
   listener_hears p q i t v here young within (CookieBegins b u n _ ports passes none opens acts gap _) = inr (meets p q i b u n gap v here young within (found_is (end_now w B) p.tag p.chunks b opens) acts)
   listener_hears p q i t v here young within (Heard _ _ _ ports passes there acts gap _) = absurd (listener_has_none w.b.phase k.listens there)
 
-  -- ---- either end
+  -- ---- either endpoint
 
-  -- the end is apart from its peer still, or they have met
+  -- the endpoint is apart from its peer still, or they have met
   abbrev Left : Side → EndView → Type 0
   Left x t = (IsUnmet (clock_of w x) t × Stands x t.phase) ⊎ Before d w x t
 

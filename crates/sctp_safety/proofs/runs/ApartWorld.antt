@@ -1,4 +1,4 @@
--- A world in which the two ends are apart: the listener listens, the caller isn't open, nothing was said of a direction.
+-- A world in which the two endpoints are apart: the listener listens, the caller isn't open, nothing was said of a direction.
 use Rattle.std.proofs.Common.{◌≡◌, ℕ, ◌<◌, min, nat_le, Bool, true, false, List, [], ◌∷◌, ◌++◌, Option, Some, None, inl, inr, refl, sym, subst, ap, arith, ◌⊎◌, ◌∙◌, if◌then◌else◌, max}
 use Rattle.sctp_model.specs.numbers.Lists.{Has}
 use Rattle.sctp_model.specs.wire.Chunk.{ChunkMeaning}
@@ -70,7 +70,7 @@ apart_end w B t k m s = record { listens = s; ends = ends; calls = calls; openin
     opening A = k.opening A
     opening B = k.opening B
 
--- the same ends, bags, logs and clocks
+-- the same endpoints, bags, logs and clocks
 pub apart_same : (w v : World) → v.a ≡ w.a → v.b ≡ w.b → v.from_a ≡ w.from_a → v.from_b ≡ w.from_b → v.log_a.calls ≡ w.log_a.calls → v.log_b.calls ≡ w.log_b.calls → v.clock_a ≡ w.clock_a → v.clock_b ≡ w.clock_b →
     IsApartWorld w → IsApartWorld v
 apart_same w v a b from_a from_b log_a log_b clock_a clock_b k = record { listens = ap (λ (e : EndView). e.phase) b ∙ k.listens; ends = ends; calls = calls; opening = opening }
@@ -147,7 +147,7 @@ apart_abort w x e r k = go (peer_tag e.phase)
     go None = k
     go (Some n) = by n (nat_le (size_of_packet (abort_packet e n r).chunks) e.configuration.limit)
 
--- the clock of one end goes on
+-- the clock of one endpoint goes on
 pub apart_clock : (w : World) (x : Side) (m : ℕ) → IsApartWorld w → IsApartWorld (with_clock w x m)
 apart_clock w A m k = record { listens = k.listens; ends = ends; calls = calls; opening = opening }
   where
@@ -176,7 +176,7 @@ apart_clock w B m k = record { listens = k.listens; ends = ends; calls = calls; 
     opening A = k.opening A
     opening B = k.opening B
 
--- ---- what an end does
+-- ---- what an endpoint does
 
 pub now_unmet : (w : World) (x : Side) → IsApartWorld w → IsUnmet (clock_of w x) (end_now w x)
 now_unmet w x k = waits_now (clock_of w x) (end_of w x) (clock_of w x) (k.ends x) (omega arith)
@@ -196,9 +196,9 @@ pub apart_sent : (w : World) (x : Side) (c : Call) → IsApartWorld w →
 apart_sent w x c k = subst (λ (o : SendAnswer). IsApartWorld (with_log (with_end w x (send_leaves o (end_of w x) c)) x (accepted w x o c))) (sym (nothing_sent (clock_of w x) (end_of w x) c (k.ends x)))
     (apart_log (with_end w x (end_of w x)) x (log_of w x) (k.calls x) (apart_end w x (end_of w x) k (k.ends x) (stands_now w x k)))
 
--- ---- `open`: both ends are set up alike
+-- ---- `open`: both endpoints are set up alike
 
--- how the ends are set up, and that a fragment isn't empty
+-- how the endpoints are set up, and that a fragment isn't empty
 pub record AreSetUp (s : Setup) (w : World) : Type 0 where
   pub alike : (x : Side) → (end_of w x).configuration ≡ configuration_of s x
   pub within : (x : Side) → IsConfiguration (configuration_of s x)

@@ -1,4 +1,4 @@
--- Where a sender is drained and the receiver at its peer is at rest, no message is missing: each was handed over, or abandoned.
+-- If a sender is drained and the receiver at its peer is at rest, no message is missing: each was delivered, or abandoned.
 use Rattle.std.proofs.Common.{◌≡◌, ℕ, zero, suc, ◌<◌, ◌≤◌, ◌⊎◌, ◌==◌, ◌&&◌, true, List, [], ◌∷◌, length, Option, Some, None, inl, inr, refl, sym, subst, ap, arith, eqb-true, ◌∙◌}
 use Rattle.std.proofs.lemmas.Bool.{cases_lt, and_parts}
 use Rattle.sctp_model.specs.numbers.Lists.{Has}
@@ -91,7 +91,7 @@ module _ (w : Way) (g : Good w) (idle : IsIdle w.format w.receiver) (all : w.sen
       go (inl below) = turn (g.held.told.passed s n below)
       go (inr le) = let first = lower_to (w.sender.plan.messages (ordered_lane s)) (w.receiver.next s) n m le named in absurd (none_waits s first.0 first.1)
 
-  -- a fragment that was reached is kept, where its message isn't over
+  -- a fragment that was reached is kept, if its message isn't over
   kept_or_over : (l : Lane) (n : ℕ) (m : Message) → message_at w.sender.plan l n ≡ Some m → (k i : ℕ) → entry_at w.sender.plan i ≡ Some (Part l n k) →
       Has w.receiver.kept (piece_of w.format i l n k m) ⊎ IsArrived l n
   kept_or_over l n m named k i here = go (all_reached i some (item_at-within w.sender.plan.entries i _ here))

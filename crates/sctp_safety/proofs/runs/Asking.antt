@@ -1,4 +1,4 @@
--- A request to reset streams that an end makes, what its user asks for, and what the answer leaves (RFC 6525, 5.1).
+-- A request to reset streams that an endpoint makes, what its user asks for, and what the answer leaves (RFC 6525, 5.1).
 use Rattle.std.proofs.Common.{◌≡◌, ℕ, zero, suc, ◌+◌, ◌-◌, ◌<◌, ◌≤◌, ◌==◌, ◌&&◌, not, nat_lt, Bool, true, false, List, [], ◌∷◌, length, slice_get, Option, None, Some, inl, inr, refl, sym, subst, ap, arith, ◌∙◌, eqb-true, if◌then◌else◌, is_some, le_refl}
 use Rattle.std.specs.Prelude.{drop, take, filter, min}
 use Rattle.std.specs.List.{list_any}

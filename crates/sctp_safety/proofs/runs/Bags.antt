@@ -5,7 +5,7 @@ use Rattle.sctp_model.specs.wire.Chunk.{ChunkMeaning}
 use Rattle.sctp_model.specs.wire.Packet.{Packet}
 use Rattle.sctp_safety.proofs.lists.Basics.{Has-left, Has-right}
 
--- every chunk that an end ever built
+-- every chunk that an endpoint ever built
 abbrev pub chunks_in : List Packet → List ChunkMeaning
 chunks_in [] = []
 chunks_in (p ∷ ps) = p.chunks ++ chunks_in ps
@@ -24,7 +24,7 @@ chunk_of_bag [] p x h k = absurd h
 chunk_of_bag (q ∷ ps) p x (inl e) k = Has-left q.chunks (chunks_in ps) x (rw e k)
 chunk_of_bag (q ∷ ps) p x (inr h) k = Has-right q.chunks (chunks_in ps) x (chunk_of_bag ps p x h k)
 
--- what stands at a place of a list is in it
+-- what is at a place of a list is in it
 got : {A : Type 0} (xs : List A) (n : ℕ) (x : A) → slice_get xs n ≡ Some x → Has xs x
 got [] n x h = absurd (cc)
 got (y ∷ xs) zero x h = inl (cc)

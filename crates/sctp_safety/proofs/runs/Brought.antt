@@ -1,4 +1,4 @@
--- A packet of the peer's that comes to an end that isn't open.
+-- A packet of the peer's that arrives at an endpoint that isn't open.
 use Rattle.std.proofs.Common.{◌≡◌, ℕ, true, false, subst}
 use Rattle.sctp_model.specs.wire.Packet.{Packet}
 use Rattle.sctp_model.specs.end.EndView.{Draw, Phase, Listening, EndView}
@@ -11,7 +11,7 @@ use Rattle.sctp_safety.proofs.machine.Strangers.{found_is}
 use Rattle.sctp_safety.proofs.runs.Pair.{AreOpening}
 use Rattle.sctp_safety.proofs.runs.Unmet.{IsUnmet, openings_keep, unmet_ended, unmet_worn}
 
--- an end that has agreed on something doesn't listen
+-- an endpoint that has agreed on something doesn't listen
 pub listens_not : (h : Phase) → h ≡ Listening → has_agreed h ≡ true → ⊥
 listens_not h is agreed = let q : false ≡ true = subst (λ (k : Phase). has_agreed k ≡ true) is agreed in absurd (cc)
 

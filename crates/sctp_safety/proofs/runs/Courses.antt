@@ -1,4 +1,4 @@
--- A run and its worlds: it has a beginning, it goes on, and where it meets the premises so does each of its beginnings.
+-- A run and its worlds: it has a beginning, it goes on, and if it meets the premises so does each of its beginnings.
 use Rattle.std.proofs.Common.{◌≡◌, ℕ, ◌<◌, List, [], ◌∷◌, ◌++◌, map, Option, Some, inl, inr, refl, sym, ap, subst, append_assoc, arith, ◌∙◌}
 use Rattle.sctp_model.specs.numbers.Limits.{AGE_LIMIT}
 use Rattle.sctp_model.specs.numbers.Lists.{Has, joined}
@@ -52,7 +52,7 @@ beginnings_are_runs w last (e ∷ es) more os (Then _ v _ _ _ o told step run) =
 
 -- ---- premises
 
--- all draws of two lists of events are those of the first, and then those of the second
+-- all random values of two lists of events are those of the first, and then those of the second
 draws_on : (es more : List Event) → joined (map draws_of (es ++ more)) ≡ joined (map draws_of es) ++ joined (map draws_of more)
 draws_on [] more = refl
 draws_on (e ∷ es) more =
@@ -62,7 +62,7 @@ tags_on : (ds others : List Draw) → map (λ (d : Draw). d.tag) (ds ++ others) 
 tags_on [] others = refl
 tags_on (d ∷ ds) others = ap (λ (ts : List ℕ). d.tag ∷ ts) (tags_on ds others)
 
--- what is drawn in the beginning is drawn in the whole
+-- what is generated in the beginning is generated in the whole
 drawn_on : (es more : List Event) (tag : ℕ) → Has (drawn_in es) tag → Has (drawn_in (es ++ more)) tag
 drawn_on es more tag has =
     subst (λ (ts : List ℕ). Has ts tag)
@@ -111,7 +111,7 @@ beginnings_are_aged w [] more [] (v ∷ vs) beyond p aged = absurd p
 beginnings_are_aged w (e ∷ es) more [] vs beyond p aged = absurd p
 beginnings_are_aged w (e ∷ es) more (o ∷ os) [] beyond p aged = absurd p
 
--- in a world of few TSNs everything comes in time
+-- in a world of few TSNs everything arrives in time
 few_in_time : (u w : World) (e : Event) → ((x : Side) → assigned_tsns w x < AGE_LIMIT) → ComesInTime u w e
 few_in_time u w (Deliver s n) few = λ p there x. let f = few x in omega (arith, f)
 few_in_time u w e few = tt
@@ -128,7 +128,7 @@ short_runs_are_aged w (e ∷ es) [] few = tt
 
 -- ---- each world
 
--- the worlds behind the first of these
+-- the worlds after the first of these
 safe_behind : (w : World) (past vs : List World) → KeepBothPromises (w ∷ (past ++ vs)) → KeepBothPromises (last_of w past ∷ vs)
 safe_behind w [] vs all = all
 safe_behind w (v ∷ past) vs all = safe_behind v past vs all.1

@@ -14,12 +14,12 @@ use Rattle.sctp_safety.proofs.runs.Dates.{Date, IsYoung, Dated, dated, all_dated
 abbrev pub Dates : Type 0
 Dates = Side → ℕ → Date
 
--- the chunks of packets that are behind so many others
+-- the chunks of packets that are after this many others
 abbrev pub dated_behind : (ℕ → Date) → (before : ℕ) → List Packet → List Dated
 dated_behind d n [] = []
 dated_behind d n (p ∷ ps) = all_dated (d (suc n)) p.chunks ++ dated_behind d (suc n) ps
 
--- those of the packets that an end ever built
+-- those of the packets that an endpoint ever built
 abbrev pub dated_bag : Dates → World → Side → List Dated
 dated_bag d w s = dated_behind (d s) 0 (bag_of w s)
 
@@ -34,7 +34,7 @@ behind_push d n (q ∷ ps) p =
     ap (λ (xs : List Dated). all_dated (d (suc n)) q.chunks ++ xs) (behind_push d (suc n) ps p ∙ ap (λ (i : ℕ). dated_behind d (suc n) ps ++ all_dated (d (suc i)) p.chunks) one)
     ∙ sym (append_assoc (all_dated (d (suc n)) q.chunks) (dated_behind d (suc n) ps) (all_dated (d (suc (n + suc (length ps)))) p.chunks))
 
--- a new packet is behind all others
+-- a new packet is after all others
 pub bag_push : (d : ℕ → Date) (ps : List Packet) (p : Packet) → dated_behind d 0 (ps ++ p ∷ []) ≡ dated_behind d 0 ps ++ all_dated (d (suc (length ps))) p.chunks
 bag_push d ps p =
     let all : 0 + length ps ≡ length ps = omega arith in
@@ -71,16 +71,16 @@ undated_bag d n (p ∷ ps) =
 
 -- ---- the dates in a step
 
--- what both ends have assigned in a world, for a packet that an end of this side built
+-- what both endpoints have assigned in a world, for a packet that the endpoint of this side built
 abbrev pub date_in : World → Side → Date
 date_in w s = record { own = assigned_tsns w s; there = assigned_tsns w (other s) }
 
--- A packet of this side that is in the bag comes while it is young, at both ends.
+-- A packet of this side that is in the bag arrives while it is young, at both endpoints.
 pub record IsYoungIn (w : World) (s : Side) (k : Date) : Type 0 where
   pub own : IsYoung k.own (assigned_tsns w s)
   pub there : IsYoung k.there (assigned_tsns w (other s))
 
--- What the dates are to a step: what comes is young, and what is built has the date of the world that the step leaves.
+-- What the dates are to a step: what arrives is young, and what is built has the date of the world that the step leaves.
 pub record AreKept (d : Dates) (w : World) (e : Event) (v : World) : Type 0 where
   pub young : (s : Side) (n : ℕ) (p : Packet) → e ≡ Deliver s n → item_at (bag_of w s) n ≡ Some p → IsYoungIn w s (d s n)
   pub fresh : (s : Side) (n : ℕ) → length (bag_of w s) < n → n ≤ length (bag_of v s) → d s n ≡ date_in v s

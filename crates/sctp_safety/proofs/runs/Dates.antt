@@ -1,11 +1,11 @@
--- When a packet was built, told in TSNs; and the chunks of packets, each with the date of its packet.
+-- When a packet was built, in TSNs; and the chunks of packets, each with the date of its packet.
 use Rattle.std.proofs.Common.{◌≡◌, ℕ, ◌+◌, ◌<◌, max, List, [], ◌∷◌, ◌++◌, map, inl, inr, refl, subst, ap, ◌∙◌}
 use Rattle.sctp_model.specs.numbers.Limits.{AGE_LIMIT}
 use Rattle.sctp_model.specs.numbers.Lists.{Has}
 use Rattle.sctp_model.specs.numbers.Serial.{half_space}
 use Rattle.sctp_model.specs.wire.Chunk.{ChunkMeaning}
 
--- how many TSNs the end that built the packet had assigned by then, those of the packet too; and how many the end across
+-- how many TSNs the endpoint that built the packet had assigned by then, those of the packet too; and how many the endpoint across
 pub record Date : Type 0 where
   pub own : ℕ
   pub there : ℕ
@@ -44,7 +44,7 @@ pub undated_packet : (k : Date) (xs : List ChunkMeaning) → undated (all_dated 
 undated_packet k [] = refl
 undated_packet k (x ∷ xs) = ap (λ (ys : List ChunkMeaning). x ∷ ys) (undated_packet k xs)
 
--- chunks without their dates, once those of a packet have come behind them
+-- chunks without their dates, once those of a packet have been put after them
 pub undated_on : (out : List Dated) (k : Date) (xs : List ChunkMeaning) → undated (out ++ all_dated k xs) ≡ undated out ++ xs
 undated_on out k xs = undated_joined out (all_dated k xs) ∙ ap (λ (ys : List ChunkMeaning). undated out ++ ys) (undated_packet k xs)
 

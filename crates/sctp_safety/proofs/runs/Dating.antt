@@ -1,5 +1,5 @@
--- The dates of a run: each packet has that of the first world that has it. Where AGED holds of the run, or neither end assigns half the space of TSNs in it, whatever comes
--- is young.
+-- The dates of a run: each packet has that of the first world that has it. If AGED holds of the run, or neither endpoint assigns half the space of TSNs in
+-- it, whatever arrives is young.
 use Rattle.std.proofs.Common.{◌≡◌, ℕ, zero, suc, ◌<◌, ◌≤◌, ◌⊎◌, nat_le, true, false, if◌then◌else◌, List, [], ◌∷◌, length, length-append, Option, Some, None, inl, inr, refl, sym, subst, ap, arith, ◌∙◌}
 use Rattle.std.proofs.lemmas.Bool.{cases_lt}
 use Rattle.std.proofs.lemmas.Bool.Decides.{nat_tests}
@@ -92,7 +92,7 @@ fresh_on d w v vs fresh longer s n lt =
     let past : length (bag_of w s) < n = omega (arith, lt, more) in
     fresh s n past ∙ ap (λ (u : World). date_in u s) (first_later s n w v vs past)
 
--- ---- what comes is young
+-- ---- what arrives is young
 
 -- in this step
 abbrev ComesYoung : Dates → World → Event → Type 0
@@ -119,7 +119,7 @@ all_kept d w [] [] (v ∷ vs) passes fresh young = absurd passes
 all_kept d w (e ∷ es) [] vs passes fresh young = absurd passes
 all_kept d w (e ∷ es) (o ∷ os) [] passes fresh young = absurd passes
 
--- ---- where few TSNs are assigned
+-- ---- if few TSNs are assigned
 
 few_young : (d : Dates) (w : World) (es : List Event) (vs : List World) → AssignFewer (half_space 32) (w ∷ vs) → AllComeYoung d w es vs
 few_young d w (e ∷ es) (v ∷ vs) few = (
@@ -129,9 +129,9 @@ few_young d w (e ∷ es) (v ∷ vs) few = (
 few_young d w [] vs few = tt
 few_young d w (e ∷ es) [] few = tt
 
--- ---- where AGED holds
+-- ---- if AGED holds
 
--- whenever this packet of this date comes it is young
+-- whenever this packet of this date arrives it is young
 abbrev IsPunctual : Date → Side → ℕ → World → List Event → List World → Type 0
 IsPunctual k s n w (e ∷ es) (v ∷ vs) = (e ≡ Deliver s n → IsYoungIn w s k) × IsPunctual k s n v es vs
 IsPunctual k s n w es vs = Unit {0}

@@ -1,4 +1,4 @@
--- One direction between two ends of the machine: moves led there from a start, and every chunk that was built says something of it.
+-- One direction between two endpoints of the machine: moves led there from a start, and every chunk that was built says something of it.
 use Rattle.std.proofs.Common.{◌≡◌, ℕ, zero, suc, ◌+◌, ◌<◌, ◌≤◌, List, [], ◌∷◌, length, slice_get, Some, refl, sym, arith, ◌∙◌}
 use Rattle.sctp_model.specs.numbers.Limits.{WINDOW}
 use Rattle.sctp_model.specs.numbers.Lists.{Has, IsWithin}
@@ -27,7 +27,7 @@ use Rattle.sctp_safety.proofs.runs.ResetFacts.{IsReadable, IsAskedBy, IsAnswered
 
 -- ---- what the chunks of a direction say
 
--- what lies between the ends: chunks with data and FORWARDs one way, acknowledgements and the indexes of SHUTDOWNs the other
+-- what lies between the endpoints: chunks with data and FORWARDs one way, acknowledgements and the indexes of SHUTDOWNs the other
 pub record Bags : Type 0 where
   pub pieces : List Piece
   pub forwards : List Forward
@@ -48,7 +48,7 @@ way_of f n a u r b = record {
   shutdowns = b.shutdowns;
 }
 
--- a data chunk of the bag, whose index was in the window when the sender had assigned so many TSNs
+-- a data chunk of the bag, whose index was in the window when the sender had assigned this many TSNs
 pub record IsPieceIn (f : Format) (initial : ℕ) (a : SenderView) (r : ReceiverView) (ps : List Piece) (since : ℕ) (m : PieceMeaning) : Type 0 where
   pub said : IsPieceSaid f initial ps m
   pub window : since ≤ said.index + WINDOW
@@ -61,8 +61,8 @@ pub record IsForwardIn (f : Format) (initial : ℕ) (a : SenderView) (r : Receiv
   pub window : since ≤ said.forward.point + WINDOW
   pub readable : (y : Skip) → Has said.forward.skips y → IsReadable f a r said.base said.forward.point y.lane y.number
 
--- A chunk of the sender's end, of a packet that was built when the sender had assigned so many TSNs: data and FORWARDs are of the bag, any other says nothing
--- of this direction.
+-- A chunk of the sender's endpoint, of a packet that was built when the sender had assigned this many TSNs: data and FORWARDs are of the bag, any other
+-- says nothing of this direction.
 abbrev pub IsSaid : Format → ℕ → SenderView → ReceiverView → Bags → (since : ℕ) → ChunkMeaning → Type 0
 IsSaid f initial a r b since (Data m) = IsPieceIn f initial a r b.pieces since m
 IsSaid f initial a r b since (IData m) = IsPieceIn f initial a r b.pieces since m
@@ -93,7 +93,7 @@ pub record Direction (f : Format) (n : ℕ) (a : SenderView) (u : Asked) (r : Re
   pub said : (x : Dated) → Has out x → IsSaid f a.initial a r bags x.date.own x.chunk
   pub said_back : (x : Dated) → Has back x → IsSaidBack r.initial r bags x.date.there x.chunk
 
--- the same direction, between ends that built these chunks
+-- the same direction, between endpoints that built these chunks
 pub with_chunks : (f : Format) (n : ℕ) (a : SenderView) (u : Asked) (r : ReceiverView) (out back : List Dated) (d : Direction f n a u r out back) (xs ys : List Dated) →
     ((x : Dated) → Has xs x → IsSaid f a.initial a r d.bags x.date.own x.chunk) → ((y : Dated) → Has ys y → IsSaidBack r.initial r d.bags y.date.there y.chunk) →
     Direction f n a u r xs ys

@@ -29,7 +29,7 @@ pub record IsKnown (v : SenderView) (u : Asked) (r : ReceiverView) : Type 0 wher
   -- and has a later ticket than each message of its stream that has a number
   pub later : (q : Queued) (l : Lane) (n : ℕ) (m : Message) → Has v.queue q → message_at v.plan l n ≡ Some m → l.stream ≡ q.lane.stream → m.ticket < q.message.ticket
   pub placed : AllArePlaced v u
-  -- what was handed over in order is below the next number
+  -- what was delivered in order is below the next number
   pub below : (s : ℕ) (h : Handed) → Has (handed r s) h → h.lane.kind ≡ Ordered → IsNumberBelow (r.next s) h.number
 
 module _ (w : World) where

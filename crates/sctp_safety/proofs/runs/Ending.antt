@@ -1,4 +1,5 @@
--- What holds between two ends while their association is closed (RFC 9260, 9.2): who is done is drained for good, who said so is done, and who was told so was told by the peer.
+-- What holds between two endpoints while their association is closed (RFC 9260, 9.2): who is done is drained for good, who said so is done, and whoever was
+-- notified was so by the peer.
 use Rattle.std.proofs.Common.{◌≡◌, ℕ, ◌⊎◌, Bool, true, false, List, ◌++◌, inl, inr, refl, sym, subst, ◌∙◌}
 use Rattle.sctp_model.specs.numbers.Lists.{Has}
 use Rattle.sctp_model.specs.wire.Chunk.{ChunkMeaning, Shutdown, ShutdownAck}
@@ -29,13 +30,13 @@ pub record IsDone (e : EndView) : Type 0 where
   pub empty : drained e.sender ≡ true
   pub last : is_last e.phase ≡ true
 
--- what only an end that is done says
+-- what only an endpoint that is done says
 abbrev pub is_shutting : ChunkMeaning → Bool
 is_shutting (Shutdown n) = true
 is_shutting ShutdownAck = true
 is_shutting x = false
 
--- ---- one end, seen with its peer
+-- ---- one endpoint, seen with its peer
 
 pub record IsEnding (e p : EndView) (out back : List ChunkMeaning) : Type 0 where
   pub home : IsHome e
@@ -44,7 +45,7 @@ pub record IsEnding (e p : EndView) (out back : List ChunkMeaning) : Type 0 wher
   pub told : hears was_told e.phase ≡ true → (n : ℕ) × Has back (Shutdown n)
   pub completed : e.phase ≡ Over Completed → IsDone e × IsDone p
 
--- both ends
+-- both endpoints
 pub record AreEnding (e p : EndView) (out back : List ChunkMeaning) : Type 0 where
   pub this : IsEnding e p out back
   pub there : IsEnding p e back out
@@ -52,7 +53,7 @@ pub record AreEnding (e p : EndView) (out back : List ChunkMeaning) : Type 0 whe
 pub ending_round : (e p : EndView) (out back : List ChunkMeaning) → AreEnding e p out back → AreEnding p e back out
 ending_round e p out back c = record { this = c.there; there = c.this }
 
--- an end that waits for a SHUTDOWN ACK is past that point
+-- an endpoint that waits for a SHUTDOWN ACK is past that point
 pub last_by_ack : (h : Phase) → hears awaits_ack h ≡ true → is_last h ≡ true
 last_by_ack (Open t g) on = on
 last_by_ack Idle on = absurd (cc)
@@ -61,9 +62,9 @@ last_by_ack (Calling d) on = absurd (cc)
 last_by_ack (Echoing t xs) on = absurd (cc)
 last_by_ack (Over why) on = absurd (cc)
 
--- ---- an end changes
+-- ---- an endpoint changes
 
--- What a step says of the end that it leaves, beside the chunks that it built: `more` of them.
+-- What a step says of the endpoint that it leaves, beside the chunks that it built: `more` of them.
 pub record IsOnward (e p t : EndView) (back : List ChunkMeaning) : Type 0 where
   pub home : IsHome t
   pub empty : hears awaits_ack t.phase ≡ true → drained t.sender ≡ true
@@ -110,7 +111,7 @@ module _ (p : EndView) (out back : List ChunkMeaning) where
   abbrev Ending : EndView → Type 0
   Ending e = AreEnding e p out back
 
-  -- in the same state, with a sender that is drained where it was
+  -- in the same state, with a sender that is drained if it was
   pub onward_same : (e t : EndView) → Ending e → IsHome t → t.phase ≡ e.phase → (drained e.sender ≡ true → drained t.sender ≡ true) → IsOnward e p t back
   onward_same e t c home same keeps = record {
     home = home;
@@ -146,7 +147,7 @@ module _ (p : EndView) (out back : List ChunkMeaning) where
     lasts = λ k. record { empty = k.empty; last = refl };
   }
 
-  -- from a state in which an end may not be done yet
+  -- from a state in which an endpoint may not be done yet
   pub onward_open : (e t : EndView) (k : Tags) (g : Stage) → (is_last e.phase ≡ true → ⊥) → IsHome t → t.phase ≡ Open k g → (awaits_ack g ≡ true → drained t.sender ≡ true) →
       (was_told g ≡ true → (n : ℕ) × Has back (Shutdown n)) → IsOnward e p t back
   onward_open e t k g unlike home is empty told = record {
@@ -157,7 +158,7 @@ module _ (p : EndView) (out back : List ChunkMeaning) where
     lasts = λ d. absurd (unlike d.last);
   }
 
-  -- an end at rest goes on with closing
+  -- an endpoint at rest goes on with closing
   pub ending_rested : (e : EndView) → Ending e → Ending (rested e)
   ending_rested e c = rested_cases Ending e c
       (λ t is empty. ending_still e p _ out back c

@@ -21,7 +21,7 @@ use Rattle.sctp_safety.proofs.runs.Acted.{not_calling}
 use Rattle.sctp_safety.proofs.runs.Homes.{home_like, IsHome, home_turned, home_answers, home_acknowledges, home_renewed}
 use Rattle.sctp_safety.proofs.runs.Ending.{was_told, is_last, IsDone, last_by_ack, AreEnding, ending_still, onward_same, onward_over, onward_complete, onward_open}
 
--- an end that hears acknowledgements has more to come
+-- an endpoint that hears acknowledgements isn't done yet
 heard_early : (g : Stage) → takes_acknowledgements g ≡ true → awaits_ack g ≡ true → ⊥
 heard_early Established a b = absurd (cc)
 heard_early ShutdownPending a b = absurd (cc)

@@ -1,4 +1,4 @@
--- A packet that is built says that its end is done only where it is.
+-- A packet that is built says that its endpoint is done only if it is.
 use Rattle.std.proofs.Common.{◌≡◌, Bool, true, false, List, [], ◌∷◌, ◌++◌, append_assoc, append-nil, inl, inr, refl, sym, subst, ℕ}
 use Rattle.sctp_model.specs.numbers.Lists.{Has}
 use Rattle.sctp_model.specs.wire.Chunk.{ChunkMeaning}
@@ -58,7 +58,7 @@ module _ (p : EndView) (back : List ChunkMeaning) where
   abbrev Ending : List ChunkMeaning → EndView → Type 0
   Ending out e = AreEnding e p out back
 
-  -- one chunk, which says that the end is done only if it is
+  -- one chunk, which says that the endpoint is done only if it is
   put : (out : List ChunkMeaning) (e t : EndView) (x : ChunkMeaning) → Ending out e → IsHome t → t.phase ≡ e.phase → t.sender ≡ e.sender →
       (is_shutting x ≡ true → IsDone t) → Ending (out ++ x ∷ []) t
   put out e t x c home same sender says =

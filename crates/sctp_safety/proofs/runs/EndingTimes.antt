@@ -1,4 +1,4 @@
--- What a moment and the calls of a user do to the closing of an association.
+-- What a time and the calls of a user do to the closing of an association.
 use Rattle.std.proofs.Common.{◌≡◌, ℕ, ◌||◌, nat_lt, Bool, true, false, not, ◌==◌, List, [], ◌∷◌, Option, Some, None, refl, sym, subst, if◌then◌else◌}
 use Rattle.sctp_model.specs.wire.Chunk.{ChunkMeaning}
 use Rattle.sctp_model.specs.sender.SenderView.{SenderView}
@@ -29,7 +29,7 @@ module _ (p : EndView) (out back : List ChunkMeaning) where
   abbrev Ending : EndView → Type 0
   Ending e = AreEnding e p out back
 
-  -- the same state, and a sender that is drained where it was
+  -- the same state, and a sender that is drained if it was
   still : (e t : EndView) → Ending e → IsHome t → t.phase ≡ e.phase → (drained e.sender ≡ true → drained t.sender ≡ true) → Ending t
   still e t c home same keeps = ending_still e p t out back c (onward_same p out back e t c home same keeps)
 

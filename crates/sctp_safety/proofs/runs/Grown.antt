@@ -1,11 +1,11 @@
--- Moves take nothing out of a plan: what stands at an index stands there in every later world.
+-- Moves take nothing out of a plan: what is at an index is there in every later world.
 use Rattle.std.proofs.Common.{◌≡◌, ℕ, List, [], ◌∷◌, Some, sym, subst}
 use Rattle.sctp_model.specs.messages.Plan.{Entry, End, Plan, entry_at, parts_from}
 use Rattle.sctp_safety.specs.Way.{Way, Move, Send, Name, Time_passes, Number, Continue, Withdraw, Abandon, Mark, Change_sending, Sack_comes, Shutdown_comes, Put_piece, Put_forward, Put_sack, Put_shutdown, Keep_piece, Drop_piece, Forward_comes, Hand_over, Hand_unordered, Pass_over, Drop_below_next, Let_go, Take, Note_duplicates, Step, Run}
 use Rattle.sctp_safety.specs.Exact.{Leads}
 use Rattle.sctp_safety.proofs.lists.Basics.{item_at-left}
 
--- what stood at an index of the first plan stands there in the second
+-- what was at an index of the first plan is there in the second
 abbrev pub IsPrefix : Plan → Plan → Type 0
 IsPrefix p q = (i : ℕ) (e : Entry) → entry_at p i ≡ Some e → entry_at q i ≡ Some e
 

@@ -1,4 +1,4 @@
--- What a receiver's calls do to its direction: what comes, what its user takes, and what it says back.
+-- What a receiver's calls do to its direction: what arrives, what its user takes, and what it says back.
 use Rattle.std.proofs.Common.{◌≡◌, ℕ, zero, suc, ap, None, Some, ◌+◌, ◌≤◌, ◌⊎◌, List, [], ◌∷◌, ◌++◌, length, Option, inl, inr, refl, sym, subst, arith, ◌∙◌}
 use Rattle.sctp_model.specs.numbers.Limits.{WINDOW}
 use Rattle.sctp_model.specs.numbers.Lists.{Has}
@@ -100,7 +100,7 @@ module _ (f : Format) (n : ℕ) (a : SenderView) (u : Asked) (r : ReceiverView) 
   take_resets s None t (none, is) = ap (λ (v : ReceiverView). v.resets) is
   take_resets s (Some h) t (rest, there, is) = ap (λ (v : ReceiverView). v.resets) is
 
-  -- a chunk with data that lies between the ends, and comes while it is young
+  -- a chunk with data that lies between the endpoints, and arrives while it is young
   pub after_piece : (x : Dated) (p : PieceMeaning) (o : PieceAnswer) (t : ReceiverView) → Has out x → IsYoung x.date.own (length a.plan.entries) →
       (IsSaid f a.initial a r d.bags x.date.own x.chunk → IsPieceIn f a.initial a r d.bags.pieces x.date.own p) → PieceTaken f r p o t → Direction f n a u t out back
   after_piece x p o t has young says taken =
@@ -119,7 +119,7 @@ module _ (f : Format) (n : ℕ) (a : SenderView) (u : Asked) (r : ReceiverView) 
   pub after_take : (s : ℕ) (h : Option Handed) (t : ReceiverView) → TakeLeaves r s h t → Direction f n a u t out back
   after_take s h t takes = received t (take_is_moves here s h t d.idle takes) (take_resets s h t takes)
 
-  -- what came again is noted, or forgotten
+  -- what arrived again is noted, or forgotten
   pub after_note : (ds : List ℕ) → Direction f n a u (record r { duplicates = ds }) out back
   after_note ds = received (record r { duplicates = ds }) (record {
     leads = leads_by here (with_receiver here (record r { duplicates = ds })) (Note_duplicates (record r { duplicates = ds })) (refl, refl);
@@ -131,7 +131,7 @@ module _ (f : Format) (n : ℕ) (a : SenderView) (u : Asked) (r : ReceiverView) 
 
   -- ---- what it says
 
-  -- a chunk that is put between the ends, and one more that the receiver's end built
+  -- a chunk that is put between the endpoints, and one more that the receiver's endpoint built
   pub put_back : (c : Bags) → IsMore d.bags c → Leads here (way_of f n a u r c) → (x : Dated) → IsSaidBack r.initial r c x.date.there x.chunk → Direction f n a u r out (back ++ x ∷ [])
   put_back c more leads x says = record {
     bags = c;

@@ -27,7 +27,7 @@ runs_at_home : (b : Bool) (t : Timer) (n : ℕ) → (if b then t else stopped t)
 runs_at_home true t n h = refl
 runs_at_home false t n h = absurd (cc)
 
--- whoever goes to another state leaves the rest behind
+-- whoever goes to another state leaves the rest there
 pub home_turned : (h : Phase) (e : EndView) → IsHome (turned h e)
 home_turned h e = record {
   shutdown = λ on. (and_parts e.due.shutdown (is_home ShutdownAlarm h) on).1;
@@ -69,7 +69,7 @@ home_acknowledges t g e is h = record { shutdown = λ on. go (or_cases e.due.shu
     go (inl on) = h.shutdown on
     go (inr on) = subst (λ (k : Phase). is_home ShutdownAlarm k ≡ true) (sym is) (sends_shutdown t g on)
 
--- a timer that begins anew runs where it ran
+-- a timer that begins anew runs if it ran
 pub home_renewed : (e : EndView) → IsHome e → IsHome (kept_going true e)
 home_renewed e h = record { shutdown = h.shutdown; ack = h.ack; shutdown_runs = λ n on. by (e.timers ShutdownAlarm).expiry refl n on; ack_runs = h.ack_runs }
   where

@@ -1,4 +1,4 @@
--- Two ends meet: both are new and agree, so both directions start.
+-- Two endpoints meet: both are new and agree, so both directions start.
 use Rattle.std.proofs.Common.{false, ◌≡◌, ℕ, zero, suc, ◌≤◌, ◌<◌, Bool, true, List, [], length, Some, None, arith, ◌∙◌, inl, refl, sym, subst, ap}
 use Rattle.sctp_model.specs.numbers.Lists.{Has, item_at}
 use Rattle.sctp_model.specs.wire.Chunk.{ChunkMeaning}
@@ -29,7 +29,7 @@ use Rattle.sctp_safety.proofs.runs.Homes.{IsHome}
 use Rattle.sctp_safety.proofs.runs.Ending.{was_told, IsEnding}
 use Rattle.sctp_safety.proofs.runs.Pairs.{IsPair, opening_other}
 
--- nothing lies between the ends yet
+-- nothing lies between the endpoints yet
 abbrev pub no_bags : Bags
 no_bags = record { pieces = []; forwards = []; sacks = []; shutdowns = [] }
 
@@ -105,9 +105,9 @@ module _ (f : Format) (tsn peer_tsn outbound inbound fragment rwnd buffer : ℕ)
     said_back = λ x has. quiet_says_back peer_tsn r no_bags x.date.there x.chunk (opening_quiet_back x.chunk (opening_back x.chunk (has_undated back x has)));
   }
 
--- ---- between two ends
+-- ---- between two endpoints
 
--- each direction of two ends with new views is safe
+-- each direction of two endpoints with new views is safe
 pub blank_is_safe : (e p : EndView) (u : Asked) → u.calls ≡ [] → IsBlank e → IsBlank p → Safe (format_of e) e.sender p.receiver u
 blank_is_safe e p u none be bp =
     subst (λ (x : SenderView). Safe (format_of e) x p.receiver u) (sym be.sender)
@@ -123,7 +123,7 @@ one_way e p u out back none be bp same streams large opening opening_back =
     (new_direction (format_of e) e.terms.own_tsn p.terms.peer_tsn e.terms.outbound p.terms.inbound e.configuration.fragment be.rwnd p.configuration.buffer e.terms.partial u none
     out back same streams large opening opening_back))
 
--- Two new ends that agree have met.
+-- Two new endpoints that agree have met.
 directions_meet : (e p : EndView) (u v : Asked) (out back : List Dated) → u.calls ≡ [] → v.calls ≡ [] → IsBlank e → IsBlank p → AreAgreed e.terms p.terms →
     has_agreed e.phase ≡ true → has_agreed p.phase ≡ true → e.moment ≤ u.clock → p.moment ≤ v.clock →
     0 < e.configuration.fragment → 0 < p.configuration.fragment → AreOpening (undated out) → AreOpening (undated back) → IsMet e p u v out back
@@ -139,14 +139,14 @@ directions_meet e p u v out back none none_there be bp agreed phase phase_there 
 
 -- ---- nothing is closed yet
 
--- an end that a new association leaves with nothing of closing due, and no timer of it running
+-- an endpoint that a new association leaves with nothing of closing due, and no timer of it running
 pub record IsUnclosed (e : EndView) : Type 0 where
   pub home : IsHome e
   pub early : hears awaits_ack e.phase ≡ false
   pub untold : hears was_told e.phase ≡ false
   pub uncompleted : e.phase ≡ Over Completed → ⊥
 
--- an end that was never open is so
+-- an endpoint that was never open is so
 never_closed : (h : Phase) → never_opened h ≡ true → (hears awaits_ack h ≡ false) × (hears was_told h ≡ false) × (h ≡ Over Completed → ⊥)
 never_closed Idle on = (refl, refl, λ q. cc)
 never_closed Listening on = (refl, refl, λ q. cc)
@@ -168,7 +168,7 @@ one_ending e p out back k opening = record {
   completed = λ is. absurd (k.uncompleted is);
 }
 
--- Both ends have met, and neither is closed.
+-- Both endpoints have met, and neither is closed.
 pub ends_meet : (e p : EndView) (u v : Asked) (out back : List Dated) → u.calls ≡ [] → v.calls ≡ [] → IsBlank e → IsBlank p → AreAgreed e.terms p.terms →
     has_agreed e.phase ≡ true → has_agreed p.phase ≡ true → e.moment ≤ u.clock → p.moment ≤ v.clock →
     0 < e.configuration.fragment → 0 < p.configuration.fragment → AreOpening (undated out) → AreOpening (undated back) → IsUnclosed e → IsUnclosed p → IsPair e p u v out back

@@ -1,4 +1,4 @@
--- Two ends that have met stay so: every step keeps both directions.
+-- Two endpoints that have met stay so: every step keeps both directions.
 use Rattle.std.proofs.Common.{◌≡◌, ℕ, suc, true, List, [], ◌∷◌, ◌++◌, length, length-append, Option, Some, append-nil, refl, sym, subst, arith, ◌∙◌}
 use Rattle.sctp_model.specs.numbers.Lists.{Has, item_at}
 use Rattle.sctp_model.specs.wire.Chunk.{ChunkMeaning}
@@ -25,7 +25,7 @@ use Rattle.sctp_safety.proofs.runs.Pairs.{IsPair, date_at, pair_arrives, pair_bu
 use Rattle.sctp_safety.proofs.runs.Answers.{answer_opens}
 use Rattle.sctp_safety.proofs.runs.MetWorld.{MetAt, MetWith, Before, IsMetWorld, at_side, from_side, now_at, put_end, put_both, told_of, only_came, put_abort, sent_at, abandoned_there, passes_at, closed_abort, closed_end, closed_packet, closed_log, goes_on, moment_at}
 
--- What comes is a packet of the end across, or its beginning, and it comes young; or a stranger's, which changes nothing.
+-- What arrives is a packet of the endpoint across, or its beginning, and it arrives young; or a third party's, which changes nothing.
 module _ (s : Setup) (drawn : List ℕ) (d : Dates) (w : World) (e : Event) (v : World) (dates : AreKept d w e v) (opening : IsOpening s drawn w) where
   -- a chunk of the packet at this place
   pub comes : (x : Side) (p : Packet) (n : ℕ) → e ≡ Deliver (other x) n → item_at (bag_of w (other x)) n ≡ Some p → (y : ChunkMeaning) → Has p.chunks y →
@@ -47,7 +47,7 @@ module _ (s : Setup) (drawn : List ℕ) (d : Dates) (w : World) (e : Event) (v :
   arrived x q t o m (ByStranger strange alone) arrives =
       subst (Before d w x) (sym (stranger_stays s.sealing drawn (end_now w x) w.draw q t o strange alone (opening.drawn_tags x) (opening.one_seal x) arrives)) (now_at d w x m)
 
--- an end that called before doesn't call again
+-- an endpoint that called before doesn't call again
 pub no_call : (h : Phase) → connect_answer h ≡ Called → has_agreed h ≡ true → ⊥
 no_call Idle e agreed = absurd (cc)
 no_call Listening e agreed = absurd (cc)
@@ -58,7 +58,7 @@ no_call (Over why) e agreed = absurd (cc)
 
 -- ---- what is built
 
--- what both ends have assigned once this packet lies in the bag
+-- what both endpoints have assigned once this packet lies in the bag
 date_built : (w : World) (x : Side) (t : EndView) (p : Packet) → date_in (with_packet (with_end w x t) x p) x ≡ date_at t (end_of w (other x))
 date_built w A t p = refl
 date_built w B t p = refl
@@ -91,7 +91,7 @@ module _ (s : Setup) (drawn : List ℕ) (d : Dates) (w : World) (opening : IsOpe
   at : (x : Side) → MetAt d w x
   at x = at_side d w x m.met
 
-  -- one end is another, and all else as before
+  -- one endpoint is another, and all else as before
   with_other : (x : Side) (t : EndView) → Before d w x t → IsMetWorld d (with_end w x t)
   with_other x t k = record { closed = closed_end w x t ∙ m.closed; met = from_side d (with_end w x t) x (put_end d w x t k) }
 

@@ -1,4 +1,4 @@
--- A world whose two ends have met stays one, whatever step comes.
+-- A world whose two endpoints have met stays one, whatever step follows.
 use Rattle.std.proofs.Common.{◌≡◌, ℕ, suc, max, nat_le, if◌then◌else◌, Bool, true, false, List, ◌++◌, length, Option, Some, None, refl, sym, subst, arith, ◌∙◌}
 use Rattle.sctp_model.specs.wire.Chunk.{ChunkMeaning}
 use Rattle.sctp_model.specs.wire.Packet.{Packet, size_of_packet}
@@ -57,7 +57,7 @@ module _ (d : Dates) where
   abbrev pub MetAt : World → Side → Type 0
   MetAt w x = IsPair (end_of w x) (end_of w (other x)) (asked_at w x) (asked_at w (other x)) (dated_bag d w x) (dated_bag d w (other x))
 
-  -- the ends have met, and are closed to an opening without packets
+  -- the endpoints have met, and are closed to an opening without packets
   pub record IsMetWorld (w : World) : Type 0 where
     pub closed : w.openable ≡ false
     pub met : MetAt w A
@@ -81,7 +81,7 @@ module _ (d : Dates) where
   pub now_at : (w : World) (x : Side) → MetAt w x → Before w x (end_now w x)
   now_at w x m = pair_now (end_of w (other x)) (asked_at w x) (asked_at w (other x)) (dated_bag d w x) (dated_bag d w (other x)) (end_of w x) (clock_of w x) m (omega arith)
 
-  -- ---- putting an end back into the world
+  -- ---- putting an endpoint back into the world
 
   pub put_end : (w : World) (x : Side) (t : EndView) → Before w x t → MetAt (with_end w x t) x
   put_end w A t m = m
@@ -120,7 +120,7 @@ module _ (d : Dates) where
       go None = m
       go (Some n) = by n (nat_le (size_of_packet (abort_packet e n r).chunks) e.configuration.limit)
 
-  -- ---- a packet came
+  -- ---- a packet arrived
 
   pub told_of : (w : World) (x : Side) (t : EndView) (v : Verdict) → Before w x t → OpensOrEnds v → IsMetWorld (with_verdict (came w x t) x v)
   told_of w x t v k opens = record {
@@ -155,20 +155,20 @@ module _ (d : Dates) where
   abandoned_there w A k m = pair_abandoned w.a w.b (asked_at w A) (asked_at w B) (dated_bag d w A) (dated_bag d w B) k m
   abandoned_there w B k m = pair_abandoned w.b w.a (asked_at w B) (asked_at w A) (dated_bag d w B) (dated_bag d w A) k m
 
-  -- ---- a moment
+  -- ---- a time
 
-  -- the clock of one end goes on
+  -- the clock of one endpoint goes on
   pub goes_on : (w : World) (x : Side) (m : ℕ) → MetAt w x → MetAt (with_clock w x m) x
   goes_on w A m k = pair_clock w.a w.b (asked_at w A) (asked_at w B) (dated_bag d w A) (dated_bag d w B) m k
   goes_on w B m k = pair_clock w.b w.a (asked_at w B) (asked_at w A) (dated_bag d w B) (dated_bag d w A) m k
 
-  -- an end is asked what is due by its clock
+  -- an endpoint is notified by its clock
   pub moment_at : (w : World) (x : Side) → MetAt w x →
       MetAt (with_log (with_end w x (ticked (end_of w x) (clock_of w x))) x (logged w x (ticked (end_of w x) (clock_of w x)))) x
   moment_at w A k = pair_ticked w.b (asked_at w A) (asked_at w B) (dated_bag d w A) (dated_bag d w B) w.a w.clock_a k (omega arith)
   moment_at w B k = pair_ticked w.a (asked_at w B) (asked_at w A) (dated_bag d w B) (dated_bag d w A) w.b w.clock_b k (omega arith)
 
-  -- both of it at both ends, which is the same as one after the other
+  -- both of it at both endpoints, which is the same as one after the other
   pub passes_at : (w : World) (m : ℕ) → MetAt w A → MetAt (record w {
     a = ticked w.a (max w.clock_a m);
     b = ticked w.b (max w.clock_b m);

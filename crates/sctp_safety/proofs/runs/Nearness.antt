@@ -1,4 +1,4 @@
--- What was in the window when its packet was built is near when the packet comes, where not too many TSNs were assigned since: its index lies less than half
+-- What was in the window when its packet was built is near when the packet arrives, if not too many TSNs were assigned since: its index lies less than half
 -- their space from the cumulative one, and from CUM.
 use Rattle.std.proofs.Common.{◌≡◌, ℕ, zero, suc, ◌+◌, ◌≤◌, ◌⊎◌, true, length, inl, inr, refl, arith}
 use Rattle.sctp_model.specs.numbers.Limits.{WINDOW}

@@ -1,4 +1,4 @@
--- A packet that an end builds keeps both directions: what stands in it is said.
+-- A packet that an endpoint builds keeps both directions: what is in it is said.
 use Rattle.sctp_model.proofs.sender.ForwardEnd.{end_from, end_upto}
 use Rattle.std.proofs.Common.{◌≡◌, ℕ, ◌+◌, ◌≤◌, ◌&&◌, Bool, true, false, List, [], ◌∷◌, ◌++◌, length, append_assoc, append-nil, inl, inr, refl, sym, subst, ap, arith, ◌∙◌}
 use Rattle.sctp_model.specs.numbers.Limits.{WINDOW}
@@ -41,7 +41,7 @@ one_quiet t x h y (inr k) = absurd k
 
 -- ---- what is due leaves the sender as it was
 
--- an end that sends as another does
+-- an endpoint that sends as another does
 record IsSendingAs (e t : EndView) : Type 0 where
   terms : t.terms ≡ e.terms
   sender : t.sender ≡ e.sender
@@ -70,14 +70,14 @@ puts_send ss e xs zs full t (IsFull _ _ _ _ _ due wants room) = record { terms =
 -- ---- a packet of this date, by which the peer has assigned no fewer
 
 module _ (p : EndView) (u v : Asked) (back : List Dated) (k : Date) (by_then : k.there ≤ length p.sender.plan.entries) where
-  -- both directions after this was built so far, by an end that assigns no more for it than the window holds past CUM
+  -- both directions after this was built so far, by an endpoint that assigns no more for it than the window holds past CUM
   record IsBuilding (out : List Dated) (e : EndView) : Type 0 where
     met : IsMet e p u v out back
     window : k.own ≤ e.sender.cum + WINDOW
 
   -- ---- one chunk
 
-  -- the end with these views, and else as it was but for what is due and for timers
+  -- the endpoint with these views, and else as it was but for what is due and for timers
   put : (out : List Dated) (e t : EndView) (x : ChunkMeaning) → IsBuilding out e → (r : ReceiverView) →
       Direction (format_of e) e.terms.outbound e.sender u p.receiver (out ++ dated k x ∷ []) back →
       Direction (format_of p) p.terms.outbound p.sender v r back (out ++ dated k x ∷ []) →
@@ -137,7 +137,7 @@ module _ (p : EndView) (u v : Asked) (back : List Dated) (k : Date) (by_then : k
 
   -- ---- one after the other
 
-  -- chunks behind those of the packet so far
+  -- chunks after those of the packet so far
   behind : (out : List Dated) (xs ys : List ChunkMeaning) → (out ++ all_dated k xs) ++ all_dated k ys ≡ out ++ all_dated k (xs ++ ys)
   behind out xs ys = append_assoc out (all_dated k xs) (all_dated k ys) ∙ ap (λ (zs : List Dated). out ++ zs) (sym (dated_on k xs ys))
 
@@ -150,7 +150,7 @@ module _ (p : EndView) (u v : Asked) (back : List Dated) (k : Date) (by_then : k
       (subst (λ (ys : List Dated). IsBuilding ys (once_built s e)) (behind out xs (x ∷ [])) (put_one s (out ++ all_dated k xs) e x m wants)) rest
   puts_keep out ss e xs zs full t m (IsFull _ _ _ _ _ due wants room) = m
 
-  -- fragments behind what is due
+  -- fragments after what is due
   fill_keeps : (out : List Dated) (e : EndView) (zs : List ChunkMeaning) → IsBuilding (out ++ all_dated k zs) e → IsMet (sent e zs) p u v (out ++ all_dated k (zs ++ fragments e zs)) back
   fill_keeps out e zs m = subst (λ (ys : List Dated). IsMet (sent e zs) p u v ys back) (behind out zs (fragments e zs))
       (met_same (record e { sender = (filled_behind e zs).view }) (sent e zs) p u v ((out ++ all_dated k zs) ++ all_dated k (fragments e zs)) back
@@ -186,7 +186,7 @@ module _ (p : EndView) (u v : Asked) (back : List Dated) (k : Date) (by_then : k
           (met_views e p u v out back out m (asked e.sender) e.receiver (after_asked (format_of e) e.terms.outbound e.sender u p.receiver out back m.going may) m.coming)
           (record { terms = refl; sender = refl; receiver = refl; moment = refl }) m.phase) window
 
-  -- A packet that is built keeps both directions, and its chunks say what lies between the ends.
+  -- A packet that is built keeps both directions, and its chunks say what lies between the endpoints.
   pub builds_keep : (out : List Dated) (e : EndView) (zs : List ChunkMeaning) (t : EndView) → IsMet e p u v out back → k.own ≤ e.sender.cum + WINDOW → Builds e zs t →
       IsMet t p u v (out ++ all_dated k zs) back
   builds_keep out e zs t m window (Sleeps none) = (first out e m window).met
@@ -221,7 +221,7 @@ asking_reached e h =
 asked_window : (e : EndView) (many : ℕ) → many ≤ (asking e).sender.cum + WINDOW → many ≤ e.sender.cum + WINDOW
 asked_window e many h = let same = ap (λ (a : SenderView). a.cum) (asking_same e).sender.1 in omega (arith, h, same)
 
--- Once a packet is built, its end has assigned no more than the window holds past the CUM from before.
+-- Once a packet is built, its endpoint has assigned no more than the window holds past the CUM from before.
 pub built_window : (e : EndView) (zs : List ChunkMeaning) (t : EndView) → IsReached (format_of e) e.sender → has_agreed e.phase ≡ true → Builds e zs t →
     length t.sender.plan.entries ≤ e.sender.cum + WINDOW
 built_window e zs t reached agreed (Sleeps none) = reached_window (format_of e) e.sender reached

@@ -1,4 +1,4 @@
--- Two ends that have met: both directions between them, and what each end's chunks say of both.
+-- Two endpoints that have met: both directions between them, and what each endpoint's chunks say of both.
 use Rattle.std.proofs.Common.{◌≡◌, ℕ, ◌≤◌, ◌⊎◌, Bool, true, false, List, ◌++◌, inl, inr, refl, sym, subst}
 use Rattle.sctp_model.specs.numbers.Lists.{Has}
 use Rattle.sctp_model.specs.wire.Chunk.{ChunkMeaning, Data, IData, Init, InitAck, Sack, Abort, Shutdown, Error, CookieEcho, ShutdownComplete, ForwardTsn, IForwardTsn, Unknown}
@@ -91,7 +91,8 @@ quiet_more f n a u r out back d xs quiet = said_more f n a u r out back d xs (λ
 
 -- ---- both directions
 
--- `u` and `v` are what the users asked for, `out` and `back` the chunks that the end and its peer ever built. Neither end's moment is past the clock.
+-- `u` and `v` are what the users asked for, `out` and `back` the chunks that the endpoint and its peer ever built. Neither endpoint's time is past the
+-- clock.
 pub record IsMet (e p : EndView) (u v : Asked) (out back : List Dated) : Type 0 where
   pub going : Direction (format_of e) e.terms.outbound e.sender u p.receiver out back
   pub coming : Direction (format_of p) p.terms.outbound p.sender v e.receiver back out
@@ -112,7 +113,7 @@ turned_round e p u v out back m = record {
   moment_there = m.moment;
 }
 
--- an end with these views, once its chunks are these
+-- an endpoint with these views, once its chunks are these
 pub met_views : (e p : EndView) (u v : Asked) (out back more : List Dated) → IsMet e p u v out back → (a : SenderView) (r : ReceiverView) →
     Direction (format_of e) e.terms.outbound a u p.receiver more back → Direction (format_of p) p.terms.outbound p.sender v r back more →
     IsMet (record e { sender = a; receiver = r }) p u v more back
@@ -126,7 +127,7 @@ met_views e p u v out back more m a r going coming = record {
   moment_there = m.moment_there;
 }
 
--- the same views, terms and moment
+-- the same views, terms and time
 pub record AreViews (e t : EndView) : Type 0 where
   pub terms : t.terms ≡ e.terms
   pub sender : t.sender ≡ e.sender
@@ -148,7 +149,7 @@ met_same e t p u v out back m same phase = record {
   moment_there = m.moment_there;
 }
 
--- ---- an end at rest
+-- ---- an endpoint at rest
 
 pub views_rested : (e : EndView) → AreViews e (rested e)
 views_rested e = rested_cases (λ (t : EndView). AreViews e t) e (views_same e)
@@ -163,7 +164,7 @@ met_rested e p u v out back m = met_same e (rested e) p u v out back m (views_re
 
 -- ---- chunks more
 
--- the end built chunks that say nothing of either direction
+-- the endpoint built chunks that say nothing of either direction
 pub met_quiet : (e p : EndView) (u v : Asked) (out back : List Dated) → IsMet e p u v out back → (k : Date) (xs : List ChunkMeaning) → AreOpening xs →
     IsMet e p u v (out ++ all_dated k xs) back
 met_quiet e p u v out back m k xs opening =

@@ -1,4 +1,4 @@
--- All that is kept of two ends that have met: both directions between them, and how far their association is closed.
+-- All that is kept of two endpoints that have met: both directions between them, and how far their association is closed.
 use Rattle.std.proofs.Common.{◌≡◌, ℕ, ◌≤◌, max, true, List, ◌++◌, length, Option, refl, sym, subst, ap, arith, ◌∙◌}
 use Rattle.sctp_model.specs.numbers.Lists.{Has, at}
 use Rattle.sctp_model.specs.wire.Chunk.{ChunkMeaning, Data, IData, Init, InitAck, Sack, Heartbeat, HeartbeatAck, Abort, Shutdown, ShutdownAck, Error, CookieEcho, CookieAck, ShutdownComplete, ForwardTsn, IForwardTsn, Unknown}
@@ -41,11 +41,11 @@ pub record IsPair (e p : EndView) (u v : Asked) (out back : List Dated) : Type 0
 pub pair_round : (e p : EndView) (u v : Asked) (out back : List Dated) → IsPair e p u v out back → IsPair p e v u back out
 pair_round e p u v out back k = record { met = turned_round e p u v out back k.met; ending = ending_round e p (undated out) (undated back) k.ending }
 
--- the sender of an end that has met its peer is one that calls reach
+-- the sender of an endpoint that has met its peer is one that calls reach
 pub reached_by : (e p : EndView) (u v : Asked) (out back : List Dated) → IsPair e p u v out back → IsReached (format_of e) e.sender
 reached_by e p u v out back k = k.met.going.reached
 
--- ---- chunks that say nothing of either direction, nor of its end
+-- ---- chunks that say nothing of either direction, nor of its endpoint
 
 pub opening_other : (x : ChunkMeaning) → opens_or_ends x ≡ true → is_shutting x ≡ true → ⊥
 opening_other (Shutdown n) a b = absurd (cc)
@@ -75,9 +75,9 @@ pair_quiet e p u v out back m k xs opening = record {
       (onward_same p (undated out) (undated back) e e m.ending m.ending.this.home refl (λ on. on)) (λ x has on. absurd (opening_other x (opening x has) on)));
 }
 
--- ---- what comes
+-- ---- what arrives
 
--- at an end that has assigned so many TSNs, which none of these chunks changes
+-- at an endpoint that has assigned this many TSNs, which none of these chunks changes
 pub record IsPairWith (many : ℕ) (e p : EndView) (u v : Asked) (out back : List Dated) : Type 0 where
   pub pair : IsPair e p u v out back
   pub assigned : length e.sender.plan.entries ≡ many
@@ -142,7 +142,7 @@ pair_arrives e p u v out back d k t o m comes (Heard w n _ ports passes has acts
 
 -- ---- what is built, called, and passes
 
--- what both ends have assigned once the end is this one
+-- what both endpoints have assigned once the endpoint is this one
 abbrev pub date_at : EndView → EndView → Date
 date_at t p = record { own = length t.sender.plan.entries; there = length p.sender.plan.entries }
 

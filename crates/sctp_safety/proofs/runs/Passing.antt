@@ -54,7 +54,7 @@ module _ (f : Format) (p : Plan) (c q : ℕ) (x : Forward) (arranged : IsOrdered
       let le = z.3 in
       omega (arith, le, number)
 
-  -- one at or before CUM stands before the listed number's, so isn't of a higher number
+  -- one at or before CUM is before the listed number's, so isn't of a higher number
   topped_before : (y : Skip) (i n : ℕ) (e : Entry) → Has x.skips y → i ≤ c → entry_at p i ≡ Some e → IsOf y.lane n e → n ≤ y.number
   topped_before y i n e has lo here of = go (is.stands y has) (cases_lt y.number n)
     where

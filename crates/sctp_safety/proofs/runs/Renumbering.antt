@@ -456,7 +456,7 @@ module _ (f : Format) (n : ℕ) (a : SenderView) (u : Asked) (r : ReceiverView) 
               }))
               (read_anew on e (view true Performed).resets (λ l. refl))
 
--- ---- the user is told
+-- ---- the user is notified
 
 pub after_told : (f : Format) (n : ℕ) (a : SenderView) (u : Asked) (r : ReceiverView) (out back : List Dated) (d : Direction f n a u r out back) (s : ℕ) → Direction f n a u (told_of r s) out back
 after_told f n a u r out back d s = receiver_reset f n a u r out back d (told_of r s).resets (record {

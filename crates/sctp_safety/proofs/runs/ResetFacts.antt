@@ -1,4 +1,4 @@
--- What both ends of a direction know of its resets, and what their chunks say of them (RFC 6525, 5.1 and 5.2).
+-- What both endpoints of a direction know of its resets, and what their chunks say of them (RFC 6525, 5.1 and 5.2).
 use Rattle.std.proofs.Common.{◌≡◌, ℕ, suc, ◌+◌, ◌-◌, ◌*◌, ◌/◌, ◌^◌, ◌%◌, ◌<◌, ◌≤◌, ◌⊎◌, nat_le, Bool, true, false, List, [], ◌∷◌, ◌++◌, length, Option, None, Some, inl, inr, refl, sym, subst, ap, arith, ◌∙◌, if◌then◌else◌}
 use Rattle.std.specs.Prelude.{drop, map}
 use Rattle.std.specs.List.{list_any}
@@ -24,7 +24,8 @@ use Rattle.sctp_safety.proofs.runs.StillStreams.{IsOld, IsStill, IsAsStill}
 
 -- ---- what chunks say
 
--- A number that a chunk says by a base: as the receiver reads it, or the chunk is old; and where its stream is of the request that waits, the chunk lies before that.
+-- A number that a chunk says by a base: as the receiver reads it, or the chunk is old; and if its stream is of the request that waits, the chunk lies
+-- before that.
 pub record IsReadable (f : Format) (a : SenderView) (r : ReceiverView) (base : Lane → ℕ) (i : ℕ) (l : Lane) (n : ℕ) : Type 0 where
   pub based : IsBased f r base i l n
   pub before : (q : Request) → a.resets.pending ≡ Some q → lists q.streams l.stream ≡ true → i ≤ q.last
@@ -53,7 +54,7 @@ AreAsked i a items = (x : Typed) → Has items x → (is_parameter OUTGOING_RESE
 abbrev pub AreAnswers : ℕ → ReceiverView → List Typed → Type 0
 AreAnswers i r items = (x : Typed) → Has items x → is_parameter RECONFIG_RESPONSE 8 x ≡ true → IsAnsweredBy i r x
 
--- ---- both ends
+-- ---- both endpoints
 
 -- the streams of the request that waits are still, and all that they have lies before it
 pub record IsOpen (a : SenderView) (q : Request) : Type 0 where
@@ -138,7 +139,7 @@ request_back answered m number last streams =
 pub one_number : (i k j : ℕ) → k ≤ 2 ^ 31 → j ≤ 2 ^ 31 → tsn i k ≡ tsn i j → k ≡ j
 one_number i k j a b same = omega (arith, a, b, same)
 
--- a last TSN that is behind, and no further ahead than the window holds, is reached
+-- a last TSN that is old, and no further ahead than the window holds, is reached
 pub behind_is : (r : ReceiverView) (c i : ℕ) → i ≤ c + WINDOW → is_behind r c (tsn r.initial i) ≡ true → i ≤ c
 behind_is r c i near behind = elim (cases_lt c i) [
   | inr low ↦ low
@@ -147,7 +148,7 @@ behind_is r c i near behind = elim (cases_lt c i) [
 
 -- ---- what stays true
 
--- of a sender whose plan grows, and of a receiver that reaches more, where neither's resets change
+-- of a sender whose plan grows, and of a receiver that reaches more, if neither's resets change
 pub readable_later : (f : Format) (a b : SenderView) (r t : ReceiverView) (base : Lane → ℕ) (i : ℕ) (l : Lane) (n : ℕ) → b.resets ≡ a.resets → length a.plan.entries ≤ length b.plan.entries →
     t.resets ≡ r.resets → ((j : ℕ) → Reaches r j → Reaches t j) → IsReadable f a r base i l n → IsReadable f b t base i l n
 readable_later f a b r t base i l n sending longer receiving more h = record {

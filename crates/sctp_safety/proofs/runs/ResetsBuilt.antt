@@ -1,4 +1,4 @@
--- The RE-CONFIGs that an end builds say its request, and the answers to its peer's.
+-- The RE-CONFIGs that an endpoint builds say its request, and the answers to its peer's.
 use Rattle.std.proofs.Common.{◌≡◌, ℕ, ◌*◌, ◌≤◌, ◌⊎◌, ◌==◌, ◌&&◌, nat_le, Bool, true, false, List, [], ◌∷◌, ◌++◌, length, Some, inl, inr, refl, sym, subst, ap, arith, ◌∙◌, eqb-true}
 use Rattle.std.specs.Prelude.{map}
 use Rattle.std.proofs.lemmas.Bool.{and_parts}

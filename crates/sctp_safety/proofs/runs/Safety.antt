@@ -1,4 +1,4 @@
--- SAFE and CLOSING in every world of every run: each step keeps the ends apart, or lets them meet, or keeps what they have since they met.
+-- SAFE and CLOSING in every world of every run: each step keeps the endpoints apart, or lets them meet, or keeps what they have since they met.
 use Rattle.std.proofs.Common.{arith, ◌≡◌, ℕ, true, List, [], ◌∷◌, Option, Some, inl, inr, refl, subst, ◌⊎◌}
 use Rattle.sctp_model.specs.numbers.Lists.{Has}
 use Rattle.sctp_model.specs.messages.Plan.{entry_at}
@@ -37,7 +37,7 @@ use Rattle.sctp_safety.proofs.runs.MetSteps.{met_step}
 use Rattle.sctp_safety.proofs.runs.ApartWorld.{IsApartWorld, AreSetUp}
 use Rattle.sctp_safety.proofs.runs.ApartSteps.{apart_step}
 
--- The two ends are apart, or have met.
+-- The two endpoints are apart, or have met.
 abbrev pub IsKept : Dates → World → Type 0
 IsKept d w = IsApartWorld w ⊎ IsMetWorld d w
 
@@ -54,7 +54,7 @@ kept_safe d w (inl k) B = blank_is_safe w.b w.a (asked_at w B) (k.calls B) (k.en
 kept_safe d w (inr m) A = direction_safe w.a w.b (asked_at w A) (dated_bag d w A) (dated_bag d w B) m.met.met.going
 kept_safe d w (inr m) B = direction_safe w.b w.a (asked_at w B) (dated_bag d w B) (dated_bag d w A) m.met.met.coming
 
--- ---- and once an end has completed nothing is missing
+-- ---- and once an endpoint has completed nothing is missing
 
 -- of a sender that nothing was asked of, nothing is missing
 blank_arrived : (e p : EndView) → IsBlank e → IsAllArrived e.sender p.receiver
@@ -79,7 +79,7 @@ kept_closed d w (inr m) s over = arrived (done s over)
           (pair_round w.a w.b (asked_at w A) (asked_at w B) (dated_bag d w A) (dated_bag d w B) m.met) db,
     )
 
--- once an end has completed both are drained
+-- once an endpoint has completed both are drained
 pub kept_drained : (d : Dates) (w : World) → IsKept d w → (x : Side) → (end_of w x).phase ≡ Over Completed → (drained w.a.sender ≡ true) × (drained w.b.sender ≡ true)
 kept_drained d w (inl k) x over = absurd (let q : never_opened (Over Completed) ≡ true = subst (λ (h : Phase). never_opened h ≡ true) over (k.ends x).unopened in cc)
 kept_drained d w (inr m) x over = both (done x over)
@@ -91,7 +91,7 @@ kept_drained d w (inr m) x over = both (done x over)
     both : IsDone w.a × IsDone w.b → (drained w.a.sender ≡ true) × (drained w.b.sender ≡ true)
     both (da, db) = (da.empty, db.empty)
 
--- ---- how the ends of a run are set up
+-- ---- how the endpoints of a run are set up
 
 no_listener : (h k : Phase) → IsTurn h k → k ≡ Listening → ⊥
 no_listener h k (ByCall d) e = absurd (cc)
@@ -123,7 +123,7 @@ kept_start s d = inl (record { listens = refl; ends = ends; calls = calls; openi
 
 -- ---- runs
 
--- what the opening keeps, that the caller never listens, and what is kept of both ends
+-- what the opening keeps, that the caller never listens, and what is kept of both endpoints
 pub record IsSteady (s : Setup) (drawn : List ℕ) (d : Dates) (w : World) : Type 0 where
   pub sound : IsSound s drawn w
   pub caller : w.a.phase ≡ Listening → ⊥
@@ -197,7 +197,7 @@ pub all_safe_in_time : (s : Setup) (es : List Event) (os : List (Option Outcome)
     PassesThrough (start s) es os vs → FreshAndUnforged s.sealing es → Aged (start s) es vs → KeepBothPromises (start s ∷ vs)
 all_safe_in_time s es os vs within passes premises aged = all_safe s es os vs within passes premises (kept_in_time s es os vs passes aged)
 
--- And in each world of a run that meets FRESH and UNFORGED, and in which neither end assigns half the space of TSNs.
+-- And in each world of a run that meets FRESH and UNFORGED, and in which neither endpoint assigns half the space of TSNs.
 pub short_runs_are_safe : ShortRunsAreSafe
 short_runs_are_safe s es os vs within passes premises few = all_safe s es os vs within passes premises (kept_by_few s es os vs passes few)
 

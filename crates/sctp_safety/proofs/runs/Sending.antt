@@ -170,7 +170,7 @@ module _ (f : Format) (n : ℕ) (a : SenderView) (u : Asked) (r : ReceiverView) 
   pub after_marking : (test : ℕ → Bool) → Direction f n (marking a test) u r out back
   after_marking test = sender_moved f n a u r out back d _ _ d.bags (more_same d.bags) (Repeats a test d.reached) (marking_is_moves here test d.usual) refl (calm f n a u r d.bags _ _ d.bags (marking_is_moves here test d.usual) refl)
 
-  -- what an acknowledgement tells marks at most
+  -- what an acknowledgement reports marks at most
   pub after_heard : (o : Option Pace) (now : ℕ) (v : SenderView) → Direction f n (sender_heard o now v a) u r out back
   after_heard o now v = heard_cases (λ x. Direction f n x u r out back) o now v a d after_marking
 
@@ -238,7 +238,7 @@ pub follows_reached : (f : Format) (a : SenderView) (room : ℕ) (ws : List Wish
 follows_reached f a room [] b h follows = subst (λ (x : SenderView). IsReached f x) (sym follows) h
 follows_reached f a room (w ∷ ws) b h (first, rest) = let parts = goes_parts f room a w first in follows_reached f (gone w) _ ws b (Goes a room w h parts.0 parts.1) rest
 
--- the chunk of a fragment that was put between the ends says it
+-- the chunk of a fragment that was put between the endpoints says it
 piece_is_said : (f : Format) (i : ℕ) (base : Lane → ℕ) (ps : List Piece) (w : Wish) → w.view.initial ≡ i → w.view.resets.base ≡ base → IsPut f ps w →
     IsPieceSaid f i ps (piece_said f w.view.initial w.view.resets.base w.index (wished w) (entry_message w.view.plan (wished w)))
 piece_is_said f i base ps w initial from p = record {
@@ -309,7 +309,7 @@ Has-map g [] y h = absurd h
 Has-map g (x ∷ xs) y (inl e) = (x, inl refl, e)
 Has-map g (x ∷ xs) y (inr h) = let k = Has-map g xs y h in (k.0, inr k.1, k.2)
 
--- What a packet is filled with, where by its date no more is assigned than the window holds past CUM.
+-- What a packet is filled with, if by its date no more is assigned than the window holds past CUM.
 pub after_fill : (f : Format) (n : ℕ) (a : SenderView) (u : Asked) (r : ReceiverView) (out back : List Dated) → Direction f n a u r out back →
     (room : ℕ) (ws : List Wish) (b : SenderView) (k : Date) → k.own ≤ a.cum + WINDOW → IsFill f a room ws b → Direction f n b u r (out ++ all_dated k (map (chunk_of f) ws)) back
 after_fill f n a u r out back d room ws b k window fill =
@@ -332,7 +332,7 @@ after_fill f n a u r out back d room ws b k window fill =
     past_all : ArePast a ws b
     past_all = follows_past f a room ws b d.reached fill.follows
 
-    -- the number that the plan has there is the one that is said, where there is one
+    -- the number that the plan has there is the one that is said, if there is one
     reads : (y : Wish) → Has ws y → (p : IsPut f bags.pieces y) → IsReadable f b r b.resets.base y.index p.lane p.number
     reads y has p = go (cases_Bool (is_numbered f p.lane.kind))
       where

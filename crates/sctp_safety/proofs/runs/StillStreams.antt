@@ -1,4 +1,5 @@
--- A stream on which nothing waits, and each of whose messages takes no further index, stays so until its user sends on it; and a message that takes none, never does.
+-- A stream on which nothing waits, and each of whose messages takes no further index, stays so until its user sends on it; and a message that takes none,
+-- never does.
 use Rattle.std.proofs.Common.{◌≡◌, ℕ, zero, suc, ◌<◌, ◌≤◌, List, [], ◌∷◌, ◌++◌, length, slice_get, Some, inl, inr, refl, sym, subst, ap, arith, ◌∙◌, le_refl}
 use Rattle.sctp_model.specs.numbers.Lists.{Has}
 use Rattle.sctp_model.specs.messages.Format.{Lane}

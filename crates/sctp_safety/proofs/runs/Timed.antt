@@ -1,4 +1,4 @@
--- What a moment and the calls of a user do to an end that has met its peer.
+-- What a time and the calls of a user do to an endpoint that has met its peer.
 use Rattle.std.proofs.Common.{◌≡◌, ℕ, ◌≤◌, ◌||◌, nat_lt, max, Bool, true, false, not, ◌==◌, List, [], ◌∷◌, ◌++◌, Option, Some, None, refl, sym, subst, arith, if◌then◌else◌}
 use Rattle.sctp_model.specs.numbers.Lists.{at}
 use Rattle.sctp_model.specs.sender.SenderView.{SenderView}
@@ -39,7 +39,7 @@ module _ (p : EndView) (u v : Asked) (out back : List Dated) where
 
   -- ---- time
 
-  -- the end takes a moment that the clock has reached
+  -- the endpoint takes a time that the clock has reached
   pub met_now : (e : EndView) (now : ℕ) → Met e → now ≤ u.clock → Met (at_moment e now)
   met_now e now m le = record {
     going = m.going;
@@ -151,7 +151,7 @@ module _ (p : EndView) (u v : Asked) (out back : List Dated) where
 
 -- ---- calls that are asked of the sender
 
--- the same ends, when the user has asked for more
+-- the same endpoints, when the user has asked for more
 met_asked : (e p : EndView) (u x v : Asked) (a : SenderView) (out back : List Dated) → IsMet e p u v out back → x.clock ≡ u.clock →
     Direction (format_of e) e.terms.outbound a x p.receiver out back → IsMet (record e { sender = a }) p x v out back
 met_asked e p u x v a out back m clock d = record {
@@ -191,7 +191,7 @@ met_abandoned e p u v out back k m = go (is_open e.phase)
     x : Asked
     x = record u { named = if gives_up (abandons e k) then at u.named k true else u.named }
 
-    -- where nothing is given up, nothing changes
+    -- if nothing is given up, nothing changes
     by_answer : (b : Bool) → gives_up (abandons e k) ≡ b →
         Direction (format_of e) e.terms.outbound (abandon_after e.sender k) (record u { named = if b then at u.named k true else u.named }) p.receiver out back
     by_answer true on = after_abandon (format_of e) e.terms.outbound e.sender u p.receiver out back m.going k
@@ -212,7 +212,7 @@ met_abandoned e p u v out back k m = go (is_open e.phase)
 
 -- ---- the clock
 
--- the end's clock goes on
+-- the endpoint's clock goes on
 pub met_clock : (e p : EndView) (u v : Asked) (out back : List Dated) (m : ℕ) → IsMet e p u v out back →
     IsMet e p (record u { clock = max u.clock m }) v out back
 met_clock e p u v out back n m = record {

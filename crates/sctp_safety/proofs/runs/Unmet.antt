@@ -1,4 +1,4 @@
--- An end that isn't open: its sender and its receiver are new, and only its opening's chunks go out.
+-- An endpoint that isn't open: its sender and its receiver are new, and only its opening's chunks go out.
 use Rattle.std.proofs.Common.{◌≡◌, ℕ, zero, suc, ◌≤◌, Bool, true, false, refl, sym, subst, ap, ◌∙◌}
 use Rattle.sctp_model.specs.wire.Chunk.{ChunkMeaning, Data, IData, Init, InitAck, Sack, Heartbeat, HeartbeatAck, Abort, Shutdown, ShutdownAck, Error, CookieEcho, CookieAck, ShutdownComplete, ForwardTsn, IForwardTsn, Unknown}
 use Rattle.sctp_model.specs.sender.SenderView.{fresh_sender}
@@ -21,7 +21,7 @@ use Rattle.sctp_safety.proofs.runs.Answers.{reply_opens}
 
 -- ---- new views
 
--- a sender and a receiver by the end's terms that nothing happened to
+-- a sender and a receiver by the endpoint's terms that nothing happened to
 pub record IsBlank (e : EndView) : Type 0 where
   pub rwnd : ℕ
   pub sender : e.sender ≡ fresh_sender e.terms.own_tsn e.terms.outbound e.configuration.fragment rwnd e.terms.partial
@@ -33,14 +33,14 @@ never_opened (Open t g) = false
 never_opened (Over Completed) = false
 never_opened h = true
 
--- Not open yet, or never to be, with new views, at a moment that the clock has reached.
+-- Not open yet, or never to be, with new views, at a time that the clock has reached.
 pub record IsUnmet (clock : ℕ) (e : EndView) : Type 0 where
   pub blank : IsBlank e
   pub unopened : never_opened e.phase ≡ true
   pub home : IsHome e
   pub moment : e.moment ≤ clock
 
--- the data timer marks nothing where nothing went out
+-- the data timer marks nothing if nothing went out
 pub timed_fresh : (initial streams fragment rwnd : ℕ) (partial : Bool) → timed_out (fresh_sender initial streams fragment rwnd partial) ≡ fresh_sender initial streams fragment rwnd partial
 timed_fresh initial streams fragment rwnd partial =
     ap (λ (m : ℕ → Bool). record (fresh_sender initial streams fragment rwnd partial) { marked = m }) (λ i n. unmarked n i)
@@ -79,7 +79,7 @@ no_completion (Calling d) on off = absurd (cc)
 no_completion (Echoing t xs) on off = absurd (cc)
 no_completion (Over why) on off = absurd (cc)
 
--- an open end was opened
+-- an open endpoint was opened
 pub open_now : (h : Phase) (k : Tags) (g : Stage) → h ≡ Open k g → never_opened h ≡ true → ⊥
 open_now h k g is off = let q : false ≡ true = subst (λ (l : Phase). never_opened l ≡ true) is off in absurd (cc)
 
@@ -98,7 +98,7 @@ module _ (clock : ℕ) where
   pub over : (e : EndView) (why : Ended) → never_opened (Over why) ≡ true → Unmet e → Unmet (closed why e)
   over e why before m = still e (closed why e) m (alike e (closed why e) refl refl refl refl refl) before (home_closed why e)
 
-  -- an end that isn't open doesn't go on with closing
+  -- an endpoint that isn't open doesn't go on with closing
   pub rests : (e : EndView) → Unmet e → Unmet (rested e)
   rests e m = rested_cases Unmet e m (λ t is d. absurd (open_now e.phase t _ is m.unopened)) (λ t is d. absurd (open_now e.phase t _ is m.unopened))
 
@@ -179,7 +179,7 @@ module _ (clock : ℕ) where
       ended_cases Unmet n e m (λ t g is. absurd (open_now e.phase t g is m.unopened)) (λ t g is. absurd (open_now e.phase t g is m.unopened))
       (λ x k. still x (kept_going true x) k (alike x (kept_going true x) refl refl refl refl refl) k.unopened (home_renewed x k.home))
 
-  -- no open end was never opened
+  -- no open endpoint was never opened
   pub unmet_worn : (from : ℕ) (e : EndView) → Unmet e → Unmet (wearing from e)
   unmet_worn from e m = worn_cases Unmet from e m (λ test on. absurd (by e.phase on m.unopened))
     where

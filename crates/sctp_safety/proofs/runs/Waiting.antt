@@ -1,4 +1,4 @@
--- What a moment, a packet to be built and the calls of its user do to an end that isn't open: its views stay new.
+-- What a time, a packet to be built and the calls of its user do to an endpoint that isn't open: its views stay new.
 use Rattle.std.proofs.Common.{◌≡◌, ℕ, ◌≤◌, ◌||◌, nat_lt, Bool, true, false, not, ◌==◌, ◌&&◌, List, [], ◌∷◌, ◌++◌, Option, Some, None, inl, inr, refl, sym, subst, ap, arith, ◌∙◌, ◌⊎◌, if◌then◌else◌}
 use Rattle.sctp_model.specs.numbers.Lists.{Has}
 use Rattle.sctp_model.specs.wire.Chunk.{ChunkMeaning}
@@ -38,7 +38,7 @@ none_is_abandoned e b k = ap (λ (a : SenderView). abandon_after a k) b.sender �
 none_marked : (e : EndView) → IsBlank e → timed_out e.sender ≡ e.sender
 none_marked e b = ap timed_out b.sender ∙ timed_fresh e.terms.own_tsn e.terms.outbound e.configuration.fragment b.rwnd e.terms.partial ∙ sym b.sender
 
--- the timers of closing run in open ends alone
+-- the timers of closing run in open endpoints alone
 no_shutdown_timer : (h : Phase) → never_opened h ≡ true → is_home ShutdownAlarm h ≡ true → ⊥
 no_shutdown_timer (Open t g) off on = absurd (cc)
 no_shutdown_timer Idle off on = absurd (cc)

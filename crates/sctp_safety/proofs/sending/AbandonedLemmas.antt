@@ -24,7 +24,7 @@ use Rattle.sctp_safety.proofs.sending.ToldLemmas.{IsInOrder, in_order, number_of
 
 -- ---- a message leaves those that wait
 
--- where none is found, all stay
+-- if none is found, all stay
 none_left : (t : ℕ) (qs : List Queued) → find (λ q. q.message.ticket == t) qs ≡ None → (without t qs ≡ qs) × ((x : Queued) → Has qs x → x.message.ticket ≡ t → ⊥)
 none_left t [] none = (refl, λ x has same. absurd has)
 none_left t (q ∷ qs) none = by_test (q.message.ticket == t) refl none (λ rest. none_left t qs rest)
@@ -67,7 +67,7 @@ test_of l n (Part k m j) is =
 test_of l n (End k m) is =
     subst (λ (x : Lane). is_of l n (End x m) ≡ true) (sym is.0) (subst (λ (x : ℕ). is_of l n (End l x) ≡ true) (sym is.1) (rw (same_lane-self l, self_same n) refl))
 
--- a mark stays where the entry isn't the message's
+-- a mark stays if the entry isn't the message's
 mark_stays : (v : SenderView) (l : Lane) (n i : ℕ) → ((v.marked i && not (passes_at v.plan (λ j e. is_of l n e) i)) ≡ true) ↔ ((v.marked i ≡ true) × ((e : Entry) → entry_at v.plan i ≡ Some e → IsOf l n e → ⊥))
 mark_stays v l n i = (λ is. (let r = and_parts (v.marked i) (not (passes_at v.plan (λ j e. is_of l n e) i)) is in (r.0, λ e here of. not_here e here of r.1)), λ is. stays is.0 (entry_at v.plan i) refl is.1)
   where
@@ -86,7 +86,7 @@ module _ (f : Format) (v : SenderView) (reached : IsReached f v) where
   o : IsInOrder f v
   o = in_order f v reached
 
-  -- the test tells whether the message is in part
+  -- the test says whether the message is in part
   in_part_is : (l : Lane) (n : ℕ) → is_in_part v l n ≡ false → (t : ℕ) (h : HasNumber v t) → h.lane ≡ l → h.number ≡ n → IsInPart v.plan l n → ⊥
   in_part_is l n off t h lane number open_now =
       let named = subst (λ (k : Lane). message_at v.plan k n ≡ Some h.message) lane (subst (λ (m : ℕ). message_at v.plan h.lane m ≡ Some h.message) number h.named) in

@@ -21,7 +21,7 @@ use Rattle.sctp_safety.proofs.moves.UsualLemmas.{retuned}
 
 -- ---- a plan that fragments of one message lengthen
 
--- an entry stands in the plan as it was, or is new
+-- an entry is in the plan as it was, or is new
 new_or_old : (p : Plan) (ms : Lane → List Message) (l : Lane) (n k d i : ℕ) (e : Entry) → entry_at (grown p ms (parts_from l n k d)) i ≡ Some e → (entry_at p i ≡ Some e) ⊎ ((j : ℕ) × (Part l n (k + j) ≡ e))
 new_or_old p ms l n k d i e here =
     elim (item_at-cases p.entries (parts_from l n k d) i e here) [
@@ -71,7 +71,7 @@ unmarked w g l (i, mark) =
     let low : length (w.sender.plan.messages l) < length (w.sender.plan.messages l) = slice_get-within (w.sender.plan.messages l) (length (w.sender.plan.messages l)) named.0 named.1 in
     omega (arith, low)
 
--- why a message of the queue may begin: none of its stream stands before it, or has an index to come; and how many fragments begin
+-- why a message of the queue may begin: none of its stream is before it, or has an index to take; and how many fragments begin
 record MayBegin (w : Way) (before : List Queued) (q : Queued) (rest : List Queued) (d : ℕ) : Type 0 where
   queue : w.sender.queue ≡ before ++ q ∷ rest
   none : HasNone before q.lane.stream
@@ -114,7 +114,7 @@ begins w before q rest d turn g order may = record {
         subst (λ (i : ℕ). item_at (w.sender.plan.entries ++ parts_from q.lane n 0 (suc d)) i ≡ Some (Part q.lane n 0)) place
         (item_at-right w.sender.plan.entries (parts_from q.lane n 0 (suc d)) 0 (Part q.lane n 0) refl)
 
--- the message in part of a stream takes its next index
+-- a stream's partly sent message takes its next index
 continues : (w : Way) (s turn : ℕ) (e : Entry) → IsSenderOrderly w → GoesOnWith w.sender.plan s e → Assigns w (record w.sender { plan = with_entry w.sender.plan e; turn = turn })
 continues w s turn e order m = subst (λ (x : Entry). Assigns w (after x)) m.same (record {
   moved = record {

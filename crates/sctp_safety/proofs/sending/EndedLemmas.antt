@@ -64,7 +64,7 @@ still_there [] e x j here = absurd (cc)
 still_there (y ∷ es) e x zero here = here
 still_there (y ∷ es) e x (suc j) here = still_there es e x j here
 
--- all that stood stands
+-- all that was there is there
 pub ended_extends : (v : SenderView) (n : Name) → Extends v.plan (ended v n)
 ended_extends v n = record { entries = entries; messages = λ l k m here. same_named v n l k ∙ here }
   where

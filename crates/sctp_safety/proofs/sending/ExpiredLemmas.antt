@@ -84,7 +84,7 @@ settled_stays now t s u apart h = after_abandon (λ (x : SenderView). IsSettled 
           ];
     }
 
--- where none waits with the ticket, none is past its time
+-- if none waits with the ticket, none is past its time
 none_waits : (now t : ℕ) (qs : List Queued) → waits t qs ≡ false → (q : Queued) → Has qs q → q.message.ticket ≡ t → is_past now q.message ≡ true → ⊥
 none_waits now t qs none q has ticket past = never_both (waits t qs) (waits_has t qs q has ticket) none
 
@@ -117,7 +117,7 @@ settled_now f now t u reached = by_name (name_of u t) refl
     }
     by_name (Some n) some = by_tests n some u.partial refl (is_abandoned u n) refl (is_covered u n) refl
 
--- its turn settles it: where it isn't due, it was settled
+-- its turn settles it: if it isn't due, it was settled
 turn_settles : (f : Format) (now t : ℕ) (u : SenderView) → IsReached f u → IsSettled now (expire_one now u t) t
 turn_settles f now t u reached = by_due (is_overdue u now t) refl
   where

@@ -1,4 +1,4 @@
--- What goes into a packet goes out by moves: a fragment takes its index where it has none yet, its chunk comes between the ends, and it counts as sent.
+-- What goes into a packet goes out by moves: a fragment takes its index if it has none yet, its chunk is put between the endpoints, and it counts as sent.
 use Rattle.std.proofs.Common.{◌≡◌, ℕ, suc, ◌≤◌, arith, le_refl, if◌then◌else◌, ◌-◌, not, true, false, Bool, List, [], ◌∷◌, Some, inl, inr, refl, sym, subst, ◌∙◌}
 use Rattle.std.proofs.lemmas.Bool.{and_parts}
 use Rattle.sctp_model.specs.numbers.Lists.{Has}
@@ -29,14 +29,14 @@ sent_repeats v i j = at_cases (λ (n : ℕ). v.repeats j ≤ n) v.repeats i (rep
     by_sent true = omega arith
     by_sent false = le_refl (v.repeats i)
 
--- what one wish does: its piece comes to the others between the ends
+-- what one wish does: its data chunk is put to the others between the endpoints
 record Goes (w : Way) (x : Wish) : Type 0 where
   piece : Piece
   moved : IsMoved w (record w { sender = gone x; pieces = piece ∷ w.pieces })
   same : x.view.initial ≡ w.sender.initial
   puts : IsPut w.format (piece ∷ w.pieces) x
 
--- moves lead to its view, where a fragment of a message stands at its index
+-- moves lead to its view, if a fragment of a message is at its index
 sent_on : (w : Way) (x : Wish) (l : Lane) (n k : ℕ) (m : Message) → IsMoved w (with_sender w x.view) → entry_at x.view.plan x.index ≡ Some (Part l n k) → message_at x.view.plan l n ≡ Some m → Goes w x
 sent_on w x l n k m moved here named = record {
   piece = p;

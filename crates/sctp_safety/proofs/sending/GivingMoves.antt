@@ -1,4 +1,4 @@
--- Abandoning is moves: a message that waits leaves the queue; one with a number is given up, and takes its end mark where it is in part.
+-- Abandoning is moves: a message that waits leaves the queue; one with a number is given up, and takes its end mark if it is in part.
 use Rattle.std.proofs.Common.{◌≡◌, ℕ, suc, ◌+◌, ◌<◌, ◌≤◌, ◌⊎◌, ◌==◌, not, ◌&&◌, ◌||◌, true, false, Bool, List, [], ◌∷◌, ◌++◌, length, zero, slice_get, Option, Some, None, inl, inr, refl, sym, subst, arith, ◌∙◌, eqb-true, leb-true, le_refl, ap}
 use Rattle.std.specs.Prelude.{if◌then◌else◌, fold, find, option_map, option_and_then, unwrap_or}
 use Rattle.std.proofs.lemmas.Bool.{and_parts}
@@ -40,7 +40,7 @@ own_or_mark p l n i e here =
     by_place zero at is = (omega (arith, at), cc)
     by_place (suc z) at is = absurd (cc)
 
--- an end mark that comes last stands behind all fragments
+-- an end mark that is last is after all fragments
 mark_last : (p : Plan) (l : Lane) (n : ℕ) → AreEndsLast p → AreEndsLast (with_entry p (End l n))
 mark_last p l n ends i j b o c part mark = by_parts (own_or_mark p l n i (Part b o c) part) (own_or_mark p l n j (End b o) mark)
   where
@@ -52,7 +52,7 @@ mark_last p l n ends i j b o c part mark = by_parts (own_or_mark p l n i (Part b
 part_still : (p : Plan) (l : Lane) (n i : ℕ) → HasPart p i → HasPart (with_entry p (End l n)) i
 part_still p l n i (b, o, c, here) = (b, o, c, item_at-left p.entries (End l n ∷ []) i (Part b o c) here)
 
--- A message that the user may give up: abandoned; its marks end; and its end mark takes an index where it is in part.
+-- A message that the user may give up: abandoned; its marks end; and its end mark takes an index if it is in part.
 pub abandoned_moved : (w : Way) (n : Named) (m : Message) → Good w → IsSenderOrderly w → message_at w.sender.plan n.lane n.number ≡ Some m → IsGivenUp w.sender w.asked n.lane n.number m → IsMoved w (with_sender w (with_abandoned w.sender n))
 abandoned_moved w n m g order named asked = by_part (is_in_part w.sender n.lane n.number) refl
   where
@@ -157,7 +157,7 @@ abandon_is_moves w t usual =
 
 -- ---- what is past its time
 
--- a message is past its time where its moment has come
+-- a message is past its time if that is reached
 past_is : (now : ℕ) (m : Message) → is_past now m ≡ true → (u : ℕ) × (m.until ≡ Some u) × (u ≤ now)
 past_is now m past = let until = some_is _ m.until past in (until.0, until.1, leb-true until.0 now until.2)
 

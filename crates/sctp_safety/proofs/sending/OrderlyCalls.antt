@@ -1,5 +1,5 @@
--- Every view that a sender's calls reach has an orderly plan, whatever SACKs came: what is covered doesn't matter to the plan, so the calls are moves of a
--- direction in which nothing was ever acknowledged.
+-- Every view that a sender's calls reach has an orderly plan, whatever SACKs arrived: what is covered doesn't matter to the plan, so the calls are moves of
+-- a direction in which nothing was ever acknowledged.
 use Rattle.std.proofs.Common.{◌≡◌, ℕ, suc, ◌<◌, not, ◌&&◌, ◌||◌, true, false, Bool, List, [], ◌∷◌, ◌++◌, length, Option, Some, None, inl, refl, sym, subst, ◌∙◌, zero, ◌≤◌, le_refl}
 use Rattle.std.proofs.lemmas.Bool.{and_parts}
 use Rattle.sctp_model.specs.numbers.Lists.{at}

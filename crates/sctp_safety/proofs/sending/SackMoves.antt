@@ -17,7 +17,7 @@ use Rattle.sctp_safety.proofs.moves.UsualLemmas.{retuned, order_fewer}
 
 -- ---- the index that a TSN is read as
 
--- A TSN that isn't behind that of CUM is read as its index.
+-- A TSN that isn't before that of CUM is read as its index.
 pub index_read : (initial c i : ℕ) → IsWithinHalf 32 i c → before 32 (tsn initial i) (tsn initial c) ≡ false → c + ahead 32 (tsn initial c) (tsn initial i) ≡ i
 index_read initial c i near fresh = let above = near.not_above in let below = near.not_below in grind (arith, nat_tests, above, below, fresh)
 
@@ -31,7 +31,7 @@ read_as v i wire is near fresh =
 
 -- ---- the moves
 
--- where a move leads to such a CUM and such covered indexes, marks end with it, and the peer's window may change
+-- if a move leads to such a CUM and such covered indexes, marks end with it, and the peer's window may change
 acknowledged : (w : Way) (cum : ℕ) (covered : ℕ → Bool) (rwnd : ℕ) → IsUsual w → Leads w (with_sender w (record w.sender { cum = cum; covered = covered }))
     → IsMoved w (with_sender w (record (covered_by w.sender cum covered) { rwnd = rwnd }))
 acknowledged w cum covered rwnd usual led = record {

@@ -56,7 +56,7 @@ not_before_itself : (l : Lane) → IsLaneBefore l l → ⊥
 not_before_itself l (inl low) = omega (arith, low)
 not_before_itself l (inr (same, first, second)) = let clash : Ordered ≡ Unordered = sym first ∙ second in cc
 
--- two lanes don't stand before each other
+-- two lanes aren't before each other
 not_both : (l k : Lane) → IsLaneBefore l k → IsLaneBefore k l → ⊥
 not_both l k (inl a) (inl b) = omega (arith, a, b)
 not_both l k (inl a) (inr (same, first, second)) = omega (arith, a, same)
@@ -160,7 +160,7 @@ forward_end_is_given f limit v = (
 
 -- ---- drained
 
--- where no summand counts, no stream has one
+-- if no summand counts, no stream has one
 none_of_sum : (g : ℕ → ℕ) (n s : ℕ) → sum_below g n ≡ 0 → s < n → g s ≡ 0
 none_of_sum g zero s none low = absurd (omega (arith, low))
 none_of_sum g (suc n) s none low = by_last (s == n) refl (λ less. none_of_sum g n s (omega (arith, none)) less)
@@ -212,7 +212,7 @@ drained_is_told f v h = (told, holds)
         no_length [] none = refl
         no_length (q ∷ qs) none = absurd (omega (arith, none))
 
-    -- where a stream goes on, a message is in part
+    -- if a stream goes on, a message is in part
     idle_all : ((l : Lane) (n : ℕ) → IsInPart v.plan l n → ⊥) → (s : ℕ) (o : Option Entry) → continued v.plan s ≡ o → one_if_some o ≡ 0
     idle_all none s None is = refl
     idle_all none s (Some e) is =

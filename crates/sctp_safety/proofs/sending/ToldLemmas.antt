@@ -1,4 +1,4 @@
--- A message by its ticket is told as it is: acknowledged, abandoned, and what `abandon` answers.
+-- A message by its ticket is reported as it is: acknowledged, abandoned, and what `abandon` answers.
 use Rattle.std.proofs.Common.{◌≡◌, ℕ, inl, inr, Bool, true, false, not, ◌&&◌, [], ◌∷◌, Option, Some, None, refl, subst, arith}
 use Rattle.std.specs.Prelude.{nat_lt, nat_le, unwrap_or, option_map}
 use Rattle.std.proofs.lemmas.Bool.{and_parts, and_from}

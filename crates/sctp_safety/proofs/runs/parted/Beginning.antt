@@ -1,4 +1,4 @@
--- In a world whose ends haven't met, and in one where they have just met, no stream is reset.
+-- In a world whose endpoints haven't met, and in one whose endpoints have just met, no stream is reset.
 use Rattle.std.proofs.Common.{◌≡◌, ℕ, max, Bool, true, false, List, [], ◌∷◌, ◌++◌, length, Option, Some, None, inl, inr, refl, sym, subst, ap, ◌∙◌, arith}
 use Rattle.std.specs.Prelude.{drop}
 use Rattle.sctp_model.specs.numbers.Lists.{Has, IsWithin, item_at}
@@ -34,7 +34,7 @@ use Rattle.sctp_safety.proofs.runs.Unmet.{IsUnmet, IsBlank}
 use Rattle.sctp_safety.proofs.runs.Waiting.{waits_ticked, waits_built, waits_abandoned, waits_taken, waits_reset, waits_told, waits_shut, waits_aborted, waits_called, waits_longer}
 use Rattle.sctp_safety.proofs.runs.parted.LaterEnds.{LaterEnd, later_itself, later_on, later_ended, on_the_way, OnTheWay}
 
--- an end none of whose streams is reset, either way
+-- an endpoint none of whose streams is reset, either way
 pub record IsUnreset (e : EndView) (n : ℕ) : Type 0 where
   pub sends : is_sending (e.sender.resets.sending n) ≡ true
   pub untold : e.receiver.resets.told n ≡ None

@@ -1,4 +1,4 @@
--- What happens at an end that has met its peer leaves its sender and its receiver as later ones.
+-- What happens at an endpoint that has met its peer leaves its sender and its receiver as later ones.
 use Rattle.std.proofs.Common.{◌≡◌, ℕ, ◌<◌, ◌≤◌, ◌==◌, ◌&&◌, ◌||◌, not, Bool, true, false, List, [], ◌∷◌, ◌++◌, length, is_some, Option, Some, None, inl, inr, refl, sym, subst, ap, ◌∙◌, eqb-true, if◌then◌else◌}
 use Rattle.std.specs.Prelude.{drop, nat_lt}
 use Rattle.std.proofs.lemmas.Bool.{and_parts}
@@ -115,7 +115,7 @@ response_goes v number code open_shut = record { since = since; shut = λ s. shu
     shut false s h = h
     shut true s h = by_request v.resets.pending s refl h
 
--- ---- an end, beside its peer
+-- ---- an endpoint, beside its peer
 
 pub record LaterEnd (p e t : EndView) : Type 0 where
   pub sender : Goes e.sender t.sender
@@ -163,7 +163,7 @@ module _ (p : EndView) (u v : Asked) (out back : List Dated) (many : ℕ) where
   abbrev Met : EndView → Type 0
   Met e = IsMetWith many e p u v out back
 
-  -- what a chunk says that comes
+  -- what a chunk says that arrives
   says : (e : EndView) (x : ChunkMeaning) → (m : Met e) (c : Comes p many back x) → IsSaid (format_of p) p.sender.initial p.sender e.receiver m.met.coming.bags c.said.date.own c.said.chunk →
       IsSaid (format_of p) p.sender.initial p.sender e.receiver m.met.coming.bags c.said.date.own x
   says e x m c h = subst (λ (y : ChunkMeaning). IsSaid (format_of p) p.sender.initial p.sender e.receiver m.met.coming.bags c.said.date.own y) c.same h
@@ -316,7 +316,7 @@ module _ (p : EndView) (u v : Asked) (out back : List Dated) (many : ℕ) where
 
   -- ---- a packet
 
-  -- an end on the way through a packet, which found the first one
+  -- an endpoint on the way through a packet, which found the first one
   pub record OnTheWay (first e : EndView) : Type 0 where
     pub met : Met e
     pub later : LaterEnd p first e

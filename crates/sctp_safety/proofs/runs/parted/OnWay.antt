@@ -1,4 +1,4 @@
--- What moves hand over: an ordered message has a number that was waited for or lay ahead; of an unordered one some fragment was recorded on the way.
+-- What moves deliver: an ordered message has a number that was waited for or lay ahead; of an unordered one some fragment was recorded on the way.
 use Rattle.std.proofs.Common.{◌≡◌, ℕ, suc, ◌<◌, ◌≤◌, ◌⊎◌, ◌==◌, Bool, true, false, List, [], ◌∷◌, ◌++◌, Some, inl, inr, refl, sym, subst, ap, ◌∙◌, arith, append-nil, if◌then◌else◌}
 use Rattle.std.proofs.lemmas.Bool.Decides.{nat_tests}
 use Rattle.std.proofs.lemmas.List.{append_assoc}
@@ -50,7 +50,7 @@ on_itself w = record {
 
 -- ---- what the moves do to a receiver
 
--- one that waits behind all others
+-- one that waits after all others
 more_behind : (taken waiting : ℕ → List Handed) (s : ℕ) (m : Handed) (c : ℕ) → (hs : List Handed) × (taken c ++ at waiting s (waiting s ++ m ∷ []) c ≡ (taken c ++ waiting c) ++ hs)
 more_behind taken waiting s m c =
     at_cases (λ (ws : List Handed). (hs : List Handed) × (taken c ++ ws ≡ (taken c ++ waiting c) ++ hs)) waiting s (waiting s ++ m ∷ []) c
@@ -127,7 +127,7 @@ module _ (w : Way) (idle : IsIdle w.format w.receiver) where
           subst (λ (n : ℕ). entry_at v.sender.plan h.first ≡ Some (Part l n 0)) number (subst (λ (y : Lane). entry_at v.sender.plan h.first ≡ Some (Part y honest.number 0)) lane begins) in
           elim (o.anew l k (h, has, lane, own)) [ inl before ↦ inl before | inr new ↦ inr (anew_on v u l k lasts seen new) ]
 
-  -- the receiver changes, and hands over nothing
+  -- the receiver changes, and delivers nothing
   quiet : (v : Way) (t : ReceiverView) → OnWay w v → ((j : ℕ) → v.receiver.seen j ≡ true → t.seen j ≡ true) →
       ((z : Piece) → Has t.kept z → Has v.receiver.kept z ⊎ (v.receiver.seen z.index ≡ false)) → ((s : ℕ) → v.receiver.next s ≤ t.next s) →
       ((s : ℕ) → handed t s ≡ handed v.receiver s) → OnWay w (with_receiver v t)
@@ -148,7 +148,7 @@ module _ (w : Way) (idle : IsIdle w.format w.receiver) where
             | inr new ↦ inr (anew_on v (with_receiver v t) l k (λ i e here. here) seen new)
           ]
 
-  -- it hands over a message
+  -- it delivers a message
   hands : (v : Way) (t : ReceiverView) (s : ℕ) (m : Handed) → OnWay w v → t.seen ≡ v.receiver.seen → ((z : Piece) → Has t.kept z → Has v.receiver.kept z) →
       ((c : ℕ) → v.receiver.next c ≤ t.next c) → t.taken ≡ v.receiver.taken → t.waiting ≡ at v.receiver.waiting s (v.receiver.waiting s ++ m ∷ []) →
       ((l : Lane) (k : ℕ) → m.lane ≡ l → entry_at v.sender.plan m.first ≡ Some (Part l k 0) → IsHandedAnew v.sender.plan w.receiver t l k) → OnWay w (with_receiver v t)

@@ -1,4 +1,5 @@
--- What a call does to a receiver, beside the sender across: nothing is forgotten, and each message that is handed over was waited for, or a fragment of it wasn't reached before.
+-- What a call does to a receiver, beside the sender across: nothing is forgotten, and each message that is delivered was waited for, or a fragment of it
+-- wasn't reached before.
 use Rattle.std.proofs.Common.{◌≡◌, ℕ, zero, suc, ◌<◌, ◌≤◌, ◌⊎◌, Bool, true, false, List, [], ◌∷◌, ◌++◌, length, length-append, Option, Some, None, inl, inr, refl, sym, subst, ap, ◌∙◌, arith, append-nil, if◌then◌else◌}
 use Rattle.std.proofs.lemmas.List.{append_assoc}
 use Rattle.sctp_model.specs.numbers.Lists.{Has}
@@ -42,7 +43,7 @@ use Rattle.sctp_safety.proofs.runs.parted.Recorded.{piece_records, forward_recor
 abbrev pub IsHandedLater : Plan → ReceiverView → Lane → ℕ → Type 0
 IsHandedLater p r l k = ((l.kind ≡ Ordered) × (r.next l.stream ≤ k)) ⊎ ((i : ℕ) × (j : ℕ) × (entry_at p i ≡ Some (Part l k j)) × (Reaches r i → ⊥))
 
--- a request for the stream that waits across was performed here, when so many messages had been handed over
+-- a request for the stream that waits across was performed here, when this many messages had been delivered
 pub record IsPerformed (a : SenderView) (r t : ReceiverView) (s n : ℕ) : Type 0 where
   pub asks : Asks a s
   pub after : length (handed r s) ≤ n
@@ -55,7 +56,7 @@ pub record Onward (a : SenderView) (r t : ReceiverView) : Type 0 where
   pub anew : (l : Lane) (k : ℕ) → WasHanded a.plan t l k → WasHanded a.plan r l k ⊎ IsHandedLater a.plan r l k
   pub told : (s n : ℕ) → t.resets.told s ≡ Some n → (r.resets.told s ≡ Some n) ⊎ IsPerformed a r t s n
 
--- nothing is handed over, and no request performed
+-- nothing is delivered, and no request performed
 pub onward_calm : (a : SenderView) (r t : ReceiverView) → ((j : ℕ) → Reaches r j → Reaches t j) → t.next ≡ r.next → ((s : ℕ) → handed t s ≡ handed r s) →
     ((s n : ℕ) → t.resets.told s ≡ Some n → r.resets.told s ≡ Some n) → Onward a r t
 onward_calm a r t reached next same told = record {
@@ -186,7 +187,7 @@ module _ (f : Format) (n : ℕ) (a : SenderView) (u : Asked) (r : ReceiverView) 
   -- ---- a request
 
   module _ (c : ℕ) (cumulative : IsCumulative r c) (m : ResetMeaning) (ask : IsAskedBy a.initial a m) where
-    -- what it leaves to be told
+    -- what it leaves to be reported
     told_then : (b : Bool) (o : ResetResult) (s k : ℕ) → (if b then with_answer (renumbered_by r (names r m.streams) o) m.number o else r).resets.told s ≡ Some k
         → (r.resets.told s ≡ Some k) ⊎ ((b ≡ true) × ((o ≡ Performed) × ((names r m.streams s ≡ true) × (k ≡ length (handed r s)))))
     told_then false o s k is = inl is

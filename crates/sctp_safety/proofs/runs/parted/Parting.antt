@@ -1,4 +1,4 @@
--- Once a request for a stream waits, what is handed over anew on that stream was accepted later.
+-- Once a request for a stream waits, what is delivered anew on that stream was accepted later.
 use Rattle.std.proofs.Common.{◌≡◌, ℕ, zero, suc, ◌<◌, ◌≤◌, ◌⊎◌, true, false, List, [], ◌∷◌, ◌++◌, length, length-append, Option, Some, None, inl, inr, refl, sym, subst, ap, ◌∙◌, arith}
 use Rattle.sctp_model.specs.numbers.Lists.{Has, AreInOrder}
 use Rattle.sctp_model.specs.messages.Format.{Format, Ordered, Lane, ordered_lane}
@@ -102,7 +102,7 @@ module _ (f : Format) (n : ℕ) (a : SenderView) (u : Asked) (r : ReceiverView) 
           let is : old.0 ≡ Part l k j = cc (there, here) in
           off (reached i old.0 old.1 (ap (λ (e : Entry). (entry_lane e).stream) is ∙ stream))
 
-  -- a message that had a number then isn't handed over any more
+  -- a message that had a number then isn't delivered any more
   none_old : (h : Handed) (hs : List Handed) → handed t s ≡ handed r s ++ hs → Has hs h → (k : ℕ) (x : Message) → h.lane.stream ≡ s → message_at b.plan h.lane k ≡ Some x →
       entry_at b.plan h.first ≡ Some (Part h.lane k 0) → message_at a.plan h.lane k ≡ Some x → ⊥
   none_old h hs all has k x stream named first old = go (o.anew h.lane k (h, subst (λ (i : ℕ). Has (handed t i) h) (sym stream) there, refl, first))
@@ -147,7 +147,7 @@ module _ (f : Format) (n : ℕ) (a : SenderView) (u : Asked) (r : ReceiverView) 
 abbrev pub Between : Side → World → World → Type 0
 Between x w v = Ongoing (end_of w x).sender (end_of w (other x)).receiver (end_of v x).sender (end_of v (other x)).receiver
 
--- where a request waits the ends have met
+-- if a request waits the endpoints have met
 pub asks_met : (d : Dates) (w : World) (x : Side) (n : ℕ) → IsKept d w → Asks (end_of w x).sender n → IsMetWorld d w
 asks_met d w x n (inr met) asks = met
 asks_met d w x n (inl apart) asks =
@@ -194,7 +194,7 @@ module _ (s : Setup) (drawn : List ℕ) (within : (x : Side) → IsConfiguration
 pub record StepResets (d : Dates) (x : Side) (n : ℕ) (w : World) (e : Event) (o : Option Outcome) (v : World) : Type 0 where
   -- a stream that takes no message took none before, or is reset now
   pub shut : is_sending ((end_of v x).sender.resets.sending n) ≡ false → (is_sending ((end_of w x).sender.resets.sending n) ≡ false) ⊎ ((e ≡ Reset x n) × (o ≡ Some Done))
-  -- what is to be told was to be told before, or a request that waited was performed now, and nothing was handed over
+  -- what is to be reported was to be reported before, or a request that waited was performed now, and nothing was delivered
   pub told : (c : ℕ) → (end_of v (other x)).receiver.resets.told n ≡ Some c →
       ((end_of w (other x)).receiver.resets.told n ≡ Some c) ⊎ (IsMetWorld d w × (Asks (end_of w x).sender n × (c ≡ length (handed (end_of w (other x)).receiver n))))
   pub grown : length (handed (end_of w (other x)).receiver n) ≤ length (handed (end_of v (other x)).receiver n)
@@ -218,7 +218,7 @@ module _ (s : Setup) (drawn : List ℕ) (within : (x : Side) → IsConfiguration
       call_at (asked_at w x) m.ticket ≡ Some (record { lane = l; payload = m.payload; bytes = bytes_of m; until = m.until; limit = m.limit })
   message_called w x l k m met named = (good_usual _ (at_side d w x met.met).met.going.usual).sound.called l k m named
 
-  -- what was handed over is a message of the plan
+  -- what was delivered is a message of the plan
   pub handed_named : (w : World) (x : Side) (n : ℕ) (h : Handed) → IsMetWorld d w → Has (handed (end_of w (other x)).receiver n) h →
       (k : ℕ) × (m : Message) × (message_at (end_of w x).sender.plan h.lane k ≡ Some m) × (entry_at (end_of w x).sender.plan h.first ≡ Some (Part h.lane k 0)) × (h.lane.stream ≡ n)
   handed_named w x n h met has =
