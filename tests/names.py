@@ -18,8 +18,8 @@ other blocks and of the text the names of crates, the pages and the links are lo
 
 Figures of tests/figures.txt are on each page what they are on their owner (tests/figures.py).
 
-Beside the names, or alone with --words: the words of tests/words.txt, which pages, the header for C and public comments don't use, are looked
-for in all of these."""
+Beside the names, or alone with --words: the words of tests/words.txt, which pages, the header for C, public comments and the comments of the
+definitions and of their proofs don't use, are looked for in all of these."""
 
 import os
 import re
@@ -35,6 +35,8 @@ ALLOWED = {'kit', 'logic', 'malloc_consolidate'}
 STD = {'Arc', 'Box', 'Option', 'Result', 'String', 'Vec', 'VecDeque'}
 MOST_EXCEPTIONS = 60
 ENDINGS = ('.antt', '.c', '.calls', '.edit', '.h', '.md', '.py', '.rattle', '.rs', '.rt', '.script', '.sh', '.toml', '.txt')
+# Who believes the theorem reads these: each comment of theirs is looked at.
+DEFINITIONS = ('crates/sctp_model/', 'crates/sctp_safety/', 'crates/sctp_outcomes/')
 OF_A_CRATE = ('src/', 'specs/', 'proofs/', 'must-fail/', 'wrong-bodies.txt')
 REMARK = {'.rt': r'//.*', '.rs': r'//.*', '.rattle': r'//.*', '.c': r'//.*', '.h': r'//.*', '.antt': r'--.*', '.py': r'(?m)^\s*#.*', '.sh': r'(?m)^\s*#.*'}
 NO_SOURCE = ('tests/names.py', 'tests/names.sh', 'tests/words.txt', 'tests/figures.txt')
@@ -260,15 +262,17 @@ def words_and_exceptions():
     listed = [word.strip() for line in words.split('\n') if ':' in line and line[0] != '#' for word in line.split(':')[0].split(',')]
     pattern = '|'.join(sorted((re.escape(word) for word in listed), key=len, reverse=True))
     allowed = [tuple(part.strip() for part in line.split(':', 2)) for line in exceptions.split('\n') if line.strip()]
-    return re.compile(rf'(?i)(?<![\w-])(?:{pattern})(?![\w-])'), allowed
+    return re.compile(rf'(?i)(?<![\w-])(?:{pattern})(?![\w-]| marks?\b)'), allowed
 
 
 def said_in(path):
-    """What a file says to its reader, line by line: a page's text, the header's comments, and of code the heads and what stands above a public item."""
+    """What a file says to its reader, line by line: a page's text, the comments of the header and the definitions, heads and public comments of code."""
     lines = text_of(path).split('\n')
     if path.endswith('.md'):
         fences = [line.lstrip().startswith('```') for line in lines]
         said = [line if sum(fences[:at]) % 2 == 0 else '' for at, line in enumerate(lines)]
+    elif path.endswith('.antt'):
+        said = [line.partition('--')[2] for line in lines]
     elif path.endswith('.h'):
         said = [''.join(re.findall(r'(?:/\*|^ \*)(.*)', line)) for line in lines]
     else:
@@ -287,7 +291,8 @@ def private_words(pages):
     pattern, allowed = words_and_exceptions()
     if len(allowed) > MOST_EXCEPTIONS:
         yield f'tests/words.txt: {len(allowed)} exceptions, and {MOST_EXCEPTIONS} at most'
-    sources = [path for path in sorted(tree_files('crates')) if path.endswith('.rt') and '/src/' in path]
+    files = sorted(tree_files('crates'))
+    sources = [path for path in files if path.endswith('.rt') and '/src/' in path or path.endswith('.antt') and path.startswith(DEFINITIONS)]
     for path in [*pages, 'include/sctp_endpoint.h', *sources]:
         for number, line in said_in(path):
             for word in pattern.findall(line):

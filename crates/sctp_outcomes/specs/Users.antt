@@ -87,7 +87,7 @@ pub record Exchange : Type 0 where
   pub named : List ℕ
   -- the time, by the clock of the sending endpoint
   pub time : ℕ
-  -- the endpoints agreed on partial reliability: `Endpoint::options` at the sending endpoint
+  -- the endpoints agreed on partial reliability: `Endpoint::is_partial` at the sending endpoint
   pub partial : Bool
   -- of a ticket: `Endpoint::acknowledged` at the sending endpoint
   pub acknowledged : ℕ → Bool
