@@ -4,9 +4,8 @@ use Rattle.std.specs.Str.{bytes_eq}
 use Rattle.std.proofs.lemmas.Bool.{cases_Bool, cases_lt, cases_eq}
 use Rattle.std.proofs.lemmas.Slice.Eq.{bytes_eq-Decides}
 use Rattle.sctp_words.specs.declared.line_fault.LineFault.TheVariants.{TooLong, UnknownCommand, WordCount, BadValue, PairOrder}
-use Rattle.sctp_events.specs.Events.{Wanted}
 use Rattle.sctp_script.specs.Grammar.{LineMeaning, Silent, Pairs, Acts, Fault}
-use Rattle.sctp_script.specs.FurtherLines.{further_name, further_fields, further_arguments, FurtherValues, further_wanted, AreOfFurther, FurtherSpells, IsFurtherLine, IsNotFurther, SaysFurther}
+use Rattle.sctp_script.specs.FurtherLines.{further_name, further_fields, further_arguments, further_wanted, FurtherSpells, IsFurtherLine, IsNotFurther, SaysFurther}
 use Rattle.sctp_script.specs.declared.further_line.FurtherCommand.{FurtherCommand}
 use Rattle.sctp_script.specs.declared.further_line.FurtherCommand.TheVariants.{Reset, Resets, Later, Moment}
 use Rattle.sctp_script.proofs.FieldLemmas.{WordsSay, one_values, values_or_none, given_count}

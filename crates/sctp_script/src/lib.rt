@@ -6,7 +6,8 @@
 //! them counts. After the `pair` line there may be lines of options, which set the configurations of both endpoints: `specs/Options` has the
 //! options, their fields and what each sets, `specs/OptionLines` which lines are such lines and what they leave, `specs/Places` what a line says
 //! at its place in a script. In a script without such a line every line says what `specs/Grammar` says; in one with it a line `send` may give a
-//! limit of retransmissions, too (`specs/LimitedSends`), and there are lines about resets of streams (`specs/FurtherLines`). `specs/OutcomeText` has the line of each outcome, `specs/ReportText` the report.
+//! limit of retransmissions, too (`specs/LimitedSends`), and there are four further commands (`specs/FurtherLines`): two of resets of streams, and
+//! two of the clock of one endpoint. `specs/OutcomeText` has the line of each outcome, `specs/ReportText` the report.
 //!
 //! # Promises
 //!
