@@ -9,6 +9,7 @@
 //! |---|---|
 //! | [`Config::new`] | the configuration with just these values, if it has no fault: no extension asked for, a SACK for each packet, closing by this profile's timers, no fast retransmission or congestion control; otherwise the first fault that it has (`configuration_fault`, in the order of the codes) |
 //! | [`Config::for_data_channels`] | the configuration for data channels between these ports (`data_channel_configuration`), unless a port is 0 |
+//! | [`Config::with_peer_port`] | this configuration with that peer's port, unless it is 0 (`configuration_fault`) |
 //! | [`Config::with_partial`], [`Config::with_interleave`] | this configuration, asking also for partial reliability, for I-DATA |
 //! | [`Config::with_reset`] | this configuration, asking also for the reset of streams |
 //! | [`Config::with_delay`], [`Config::with_standard_closing`] | this configuration, with delayed SACKs; closing by the RFC's timers |
@@ -34,6 +35,7 @@ mod laws;
 mod life;
 mod mode;
 mod pacing;
+mod ports;
 mod reason;
 mod settings;
 

@@ -52,6 +52,14 @@ impl Config {
         sctp_terms::Config::for_data_channels(own_port, peer_port).map(Config).map_err(ConfigError::of)
     }
 
+    /// This configuration with a peer at `peer_port`. A server makes one for each peer, by the source port of its INIT; all else is as it was.
+    ///
+    /// # Errors
+    /// [`ConfigError::Port`] if `peer_port` is 0.
+    pub fn with_peer_port(self, peer_port: u16) -> Result<Config, ConfigError> {
+        self.0.with_peer_port(peer_port).map(Config).map_err(ConfigError::of)
+    }
+
     /// Settings that make this configuration, to be changed.
     pub fn to_builder(self) -> ConfigBuilder {
         ConfigBuilder {

@@ -80,6 +80,12 @@ fn a_configuration_is_what_was_asked_for() {
     let web = Config::for_data_channels(5_000, 5_000).unwrap();
     assert_eq!((web.packet_limit(), web.fragment(), web.receive_buffer(), web.outbound()), (1_188, 1_156, 1 << 20, 1_024));
     assert_eq!(web.to_builder().build(), Ok(web));
+    for config in [plain, other, web] {
+        let moved = config.with_peer_port(65_535).unwrap();
+        assert_eq!((moved.own_port(), moved.peer_port()), (config.own_port(), 65_535));
+        assert_eq!(moved.with_peer_port(config.peer_port()), Ok(config));
+        assert_eq!(config.with_peer_port(0), Err(ConfigError::Port));
+    }
 }
 
 #[test]
