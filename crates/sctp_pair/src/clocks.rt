@@ -21,10 +21,15 @@ impl Pair {
             → (x : World) × Step w (meaning.Later (side_meaning side) moment) (Some (outcome_meaning result)) x × PairStands self.new x }
     {
         match side {
-            Side::A => self.clock_a = self.clock_a.max(moment),
-            Side::B => self.clock_b = self.clock_b.max(moment),
+            Side::A => {
+                self.clock_a = self.clock_a.max(moment);
+                Outcome::Done
+            }
+            Side::B => {
+                self.clock_b = self.clock_b.max(moment);
+                Outcome::Done
+            }
         }
-        Outcome::Done
     }
 
     /// Notifies an endpoint of the time of its clock; the messages that it abandons then are logged, for which space is reserved first.

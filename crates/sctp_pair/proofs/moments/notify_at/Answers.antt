@@ -19,8 +19,11 @@ returns-in_err-before-clause-step c = λ w s stands clock.
 pub returns-clause-step : goal.returns-clause-step
 returns-clause-step c = λ w s stands clock.
     let n = c.args.clock in
-    let listed = rw c.deref.ensures.value (c.in_ok-before.ensures.listed (side_of w s) stands) in
-    (ticked_side (side_of w s) n, moment_comes w s n clock, c.tick.ensures (side_of w s) (c.make_room.ensures.same (side_of w s) stands) listed)
+    let same = c.make_room.ensures.same (side_of w s) stands in (
+      ticked_side (side_of w s) n,
+      moment_comes w s n clock,
+      c.tick.ensures (side_of w s) same (rw c.deref.ensures.value (c.in_ok-before.ensures.listed (side_of w s) stands)),
+    )
 
 pub returns-in_err-before-clause-memory : goal.returns-in_err-before-clause-memory
 returns-in_err-before-clause-memory c = λ w s stands clock.
