@@ -19,7 +19,7 @@ NUMBERS = [str(n).encode() for top in (8, 16, 31, 32, 40, 63, 64, 65, 128) for n
 NUMBERS += [b'0', b'00', b'01', b'-0', b'-1', b'+1', b'1.0', b'1e3', b'0x1', b'1_0', b'9' * 19, b'9' * 20, b'9' * 21, b'1' + b'0' * 19,
             b'0' * 20 + b'1', b'9' * 1000, b'-', b'--', b'', b'\xd9\xa1', b'1\r', b'1\0', b'a', b'A']
 COMMANDS = (b'pair', b'open', b'at', b'draw', b'connect', b'build', b'deliver', b'foreign', b'send', b'abandon', b'take', b'shutdown',
-            b'abort', b'report', b'Open', b'ope', b'opens', b'\xef\xbb\xbfopen')
+            b'abort', b'later', b'moment', b'reset', b'resets', b'report', b'Open', b'ope', b'opens', b'\xef\xbb\xbfopen')
 
 
 class Odd:
