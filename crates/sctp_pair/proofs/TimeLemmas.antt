@@ -1,9 +1,9 @@
 -- The steps of time.
-use Rattle.std.proofs.Common.{◌≡◌, ℕ, ◌^◌, ◌<◌, max, Some, refl, subst, ◌∙◌}
+use Rattle.std.proofs.Common.{◌≡◌, ℕ, ◌^◌, ◌<◌, max, Some, refl, subst}
 use Rattle.sctp_model.specs.end.Moments.{ticked}
-use Rattle.sctp_model.specs.world.World.{Side, A, B, World, end_of, clock_of, with_end, with_log, with_clock, logged}
-use Rattle.sctp_model.specs.world.Events.{Later, Moment, At, Done}
-use Rattle.sctp_model.specs.world.Steps.{Step, TimeGoesOn, MomentComes, TimePasses}
+use Rattle.sctp_model.specs.world.World.{Side, A, B, World, end_of, clock_of, with_end, with_log, logged}
+use Rattle.sctp_model.specs.world.Events.{Moment, At, Done}
+use Rattle.sctp_model.specs.world.Steps.{Step, MomentComes, TimePasses}
 use Rattle.sctp_pair.specs.Sides.{side_of, with_side, ticked_side}
 
 -- both ends and both logs, and both clocks, at these times

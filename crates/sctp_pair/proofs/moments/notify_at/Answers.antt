@@ -4,7 +4,7 @@ use Rattle.sctp_model.specs.world.World.{end_of}
 use Rattle.sctp_model.specs.world.Events as meaning
 use Rattle.sctp_model.specs.world.Steps as steps
 use Rattle.sctp_pair.specs.Noted.{has_to_give_up}
-use Rattle.sctp_pair.specs.Sides.{side_of, ticked_side, SideStands}
+use Rattle.sctp_pair.specs.Sides.{side_of, ticked_side}
 use Rattle.sctp_pair.proofs.MemoryLemmas.{anyway}
 use Rattle.sctp_pair.proofs.StepLemmas.{no_memory}
 use Rattle.sctp_pair.proofs.TimeLemmas.{moment_comes}

@@ -1,4 +1,4 @@
-use Rattle.std.proofs.Common.{◌≡◌, ℕ, max, refl, subst, ap, ◌∙◌, arith}
+use Rattle.std.proofs.Common.{◌≡◌, max, arith}
 use Rattle.std.proofs.lemmas.Grind.{common_steps}
 use Rattle.sctp_model.specs.world.World.{A, B, with_clock}
 use Rattle.sctp_model.specs.world.Steps as steps
