@@ -50,6 +50,7 @@ mod event;
 mod events;
 mod fault;
 mod laws;
+mod limits;
 mod making;
 mod opening;
 mod packets;

@@ -16,6 +16,7 @@ ghost use Rattle.sctp_channels.specs.inner.Sent.{AcksOn, SendsOn, SendsBehind};
 
 use crate::channels::Channels;
 use crate::fault::SendFault;
+use crate::limits::{limit_by, until_by};
 use crate::stream::{ChannelType, Due, Stream};
 use sctp_dcep::{ACKNOWLEDGEMENT, Content, DCEP};
 use sctp_endpoint::{Refused, SendFault as Fault, Ticket};
@@ -223,35 +224,5 @@ impl Channels {
                 .endpoint
                 .send_with_max_retransmits(stream, ordered, payload_id, bytes, until, limit),
         }
-    }
-}
-
-/// The end of the lifetime of a message that is sent at this time, on a channel of this type.
-fn until_by(kind: ChannelType, parameter: u32, now: u64) -> Option<u64>
-    ensures { result ≡ until_by kind parameter now }
-{
-    match kind {
-        ChannelType::Timed | ChannelType::TimedUnordered => {
-            Some(now.saturating_add(u64::from(parameter)))
-        }
-        ChannelType::Reliable
-        | ChannelType::ReliableUnordered
-        | ChannelType::Rexmit
-        | ChannelType::RexmitUnordered => None,
-    }
-}
-
-/// How often a message may be retransmitted on a channel of this type.
-fn limit_by(kind: ChannelType, parameter: u32) -> Option<u16>
-    ensures { result ≡ limit_by kind parameter }
-{
-    match kind {
-        ChannelType::Rexmit | ChannelType::RexmitUnordered => {
-            Some(u16::try_from(parameter).unwrap_or(u16::MAX))
-        }
-        ChannelType::Reliable
-        | ChannelType::ReliableUnordered
-        | ChannelType::Timed
-        | ChannelType::TimedUnordered => None,
     }
 }
