@@ -23,7 +23,7 @@
 //!
 //! # What a body may still get away with
 //!
-//! Returning `NoMemory` although there is memory.
+//! Returning `NoMemory` although there is memory: the tests show that it doesn't.
 #![tactic(auto)]
 
 mod by_peer;
@@ -35,6 +35,8 @@ mod peer;
 mod routing;
 mod table;
 mod tags;
+#[cfg(test)]
+mod tests;
 mod turns;
 
 pub use by_peer::ByPeer;
