@@ -136,6 +136,10 @@ fn collect(source: &mut Source<'_>, at: usize) -> Result<usize, Unknown> {
 
 /// The bound `Drop`, alone or beside others.
 fn bound(source: &mut Source<'_>, at: usize) -> Result<usize, Unknown> {
+    // `impl<T: Drop` is the shortest text before one.
+    if at < 4 {
+        return Err(source.unknown(at, "`Drop` here has no row"));
+    }
     let (before, after) = (source.word(at - 1), source.word(at + 1));
     match (before, after) {
         (":", "+") => source.replace(Row::BoundDrop, source.start(at), source.start(at + 2), ""),
@@ -149,13 +153,13 @@ fn bound(source: &mut Source<'_>, at: usize) -> Result<usize, Unknown> {
 /// `T: Drop` without other bounds: in a `where` the whole predicate goes, and the `where` if it was the only one.
 fn alone(source: &mut Source<'_>, at: usize) -> Result<(), Unknown> {
     let mut first = at - 2;
-    while source.is_path(first.saturating_sub(2)) {
+    while first > 3 && source.is_path(first - 2) {
         first -= 3;
     }
     let last = if source.word(at + 1) == "," { at + 1 } else { at };
     let is_end = ["{", ";"].contains(&source.word(last + 1));
     match source.word(first - 1) {
-        "where" if is_end => {
+        "where" if is_end && first > 1 => {
             let brace = source.word(last + 1) == "{";
             source.replace(Row::BoundDrop, source.end(first - 2), source.end(last), "");
             if brace {
