@@ -1,0 +1,9 @@
+mod ListeningLemmas
+mod MeetingLaws
+mod PeerLaws
+mod ProductLaws
+mod RoutingLaws
+mod TableLemmas
+mod TurnLaws
+mod UnkeptLaws
+mod UnmovedLaws

@@ -1,0 +1,13 @@
+pub mod ByPeer
+pub mod Meeting
+pub mod Numbers
+pub mod Opposite
+pub mod Peers
+pub mod Places
+pub mod Product
+pub mod Routing
+pub mod Table
+pub mod Tags
+pub mod Turns
+pub mod Unkept
+pub mod Unmoved

@@ -1,0 +1,45 @@
+//! Whose turn it is to send.
+
+ghost use Rattle.std.specs.Prelude.{◌≡◌, ◌++◌, ◌∷◌, [], OnOk, OnErr};
+ghost use Rattle.sctp_socket.specs.Turns.{turned_once, waiting_of};
+
+use sctp_values::NoMemory;
+use std::alloc::Global;
+use std::collections::VecDeque;
+
+/// The numbers of those who may have something to send, in turn.
+#[derive(Drop)]
+pub struct Turns {
+    waiting: VecDeque<u64>,
+}
+
+impl Turns {
+    /// Nobody.
+    pub fn new(alloc: Global) -> Turns
+        ensures { waiting_of result ≡ [] }
+    {
+        Turns {
+            waiting: VecDeque::new(alloc),
+        }
+    }
+
+    /// One more, after all others.
+    ///
+    /// # Errors
+    /// An allocation failed: nothing changed.
+    pub fn add(&mut self, number: u64) -> Result<(), NoMemory>
+        ensures items { OnOk result (waiting_of self.new ≡ waiting_of self.old ++ number ∷ []) }
+        ensures refused { OnErr result (waiting_of self.new ≡ waiting_of self.old) }
+    {
+        self.waiting.push_back(number).map_err(|_| NoMemory)
+    }
+
+    /// The first one goes after all others.
+    pub fn turn(&mut self)
+        ensures { waiting_of self.new ≡ turned_once (waiting_of self.old) }
+    {
+        if !self.waiting.is_empty() {
+            self.waiting.rotate_left(1);
+        }
+    }
+}
