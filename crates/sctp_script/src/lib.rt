@@ -54,6 +54,7 @@
 
 mod command;
 mod command_words;
+mod further_line;
 mod laws;
 mod limited_send;
 mod line;
@@ -63,7 +64,6 @@ mod outcome_line;
 mod pair_words;
 mod placed;
 mod report;
-mod further_line;
 mod side_word;
 mod ticket_line;
 

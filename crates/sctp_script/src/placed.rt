@@ -5,10 +5,10 @@ ghost use Rattle.sctp_script.specs.Places as places;
 ghost use Rattle.sctp_script.specs.PlacedAnswer.{place_meaning, FindsAt, RefusesAt};
 ghost use Rattle.sctp_script.specs.inner.PlainAnswer.{FindsPlain, RefusesPlain, FindsUnlimited, RefusesUnlimited, FindsPaired, RefusesPaired};
 
+use crate::further_line::read_further_line;
 use crate::limited_send::read_limited_send;
 use crate::line::{Acting, read_line};
 use crate::options::read_options;
-use crate::further_line::read_further_line;
 use sctp_events::{Event, PairConfig, TwoConfigs};
 use sctp_values::NoMemory;
 use sctp_words::LineError;
