@@ -1,5 +1,5 @@
 -- Which call wins.
-use Rattle.std.proofs.Common.{◌≡◌, ◌≢◌, ℕ, ◌⊎◌, inl, inr, nat_lt, Bool, true, false, ◌||◌, ◌==◌, Option, refl, sym, arith, ◌∙◌}
+use Rattle.std.proofs.Common.{◌≡◌, ◌≢◌, ℕ, ◌⊎◌, inl, inr, nat_lt, Bool, true, false, ◌==◌, Option, refl, sym, arith, ◌∙◌}
 use Rattle.sctp_model.specs.end.Sealing.{Body}
 use Rattle.sctp_socket.specs.declared.meeting.Standing.{Standing}
 use Rattle.sctp_socket.specs.declared.meeting.Standing.TheVariants.{Echoed, Joined}

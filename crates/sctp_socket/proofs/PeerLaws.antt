@@ -7,7 +7,7 @@ use Rattle.std.proofs.lemmas.Bool.Decides.{Decides-eqb}
 use Rattle.std.proofs.lemmas.Slice.Eq.{bytes_eq-Decides}
 use Rattle.sctp_socket.specs.declared.peer.Host.{Host}
 use Rattle.sctp_socket.specs.declared.peer.Peer.{Peer}
-use Rattle.sctp_socket.specs.Peers.{is_same_host, text_of, HostsAreTheirBytes, HostsStay, TextsAreApart}
+use Rattle.sctp_socket.specs.Peers.{is_same_host, HostsAreTheirBytes, HostsStay, TextsAreApart}
 
 pub hosts_are_their_bytes : HostsAreTheirBytes
 hosts_are_their_bytes a b fits others same =

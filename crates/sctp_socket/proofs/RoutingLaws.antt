@@ -7,7 +7,7 @@ use Rattle.sctp_socket.specs.declared.meeting.Standing.TheVariants.{Apart, Calle
 use Rattle.sctp_socket.specs.declared.meeting.Reply.{Reply}
 use Rattle.sctp_socket.specs.declared.meeting.Reply.TheVariants.{Silent, UnderOwn, UnderFresh}
 use Rattle.sctp_socket.specs.Meeting.{reply}
-use Rattle.sctp_socket.specs.Routing.{ToEnd, ToListener, Nobody, route_of_reply, route_of_ack, is_known, IsCalled, listener_there, ApartWithout, InitsReachNoEnd, EchoesAreOwn, AcksReachCallers}
+use Rattle.sctp_socket.specs.Routing.{ToEnd, ToListener, route_of_reply, route_of_ack, is_known, IsCalled, listener_there, ApartWithout, InitsReachNoEnd, EchoesAreOwn, AcksReachCallers}
 
 reply_reaches : (x : Standing) (fresh : Draw) (y : Reply) → route_of_reply x fresh y ≢ ToEnd
 reply_reaches x fresh Silent h = absurd (cc)

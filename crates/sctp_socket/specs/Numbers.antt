@@ -1,5 +1,5 @@
 -- Values under numbers that are never given again.
-use Rattle.std.specs.Prelude.{◌≡◌, ℕ, ◌<◌, Option}
+use Rattle.std.specs.Prelude.{ℕ, ◌<◌, Option}
 use Rattle.std.specs.Ordering.{nat_cmp}
 use Rattle.std.specs.BTreeMap.{get, ContainsKey, Updates, IsUnchanged, IsEmpty}
 use Rattle.sctp_socket.specs.declared.numbered.Numbered.{Numbered}

@@ -1,6 +1,5 @@
-use Rattle.std.proofs.Common.{◌++◌, ◌∷◌, List, ℕ, length, ap, arith}
+use Rattle.std.proofs.Common.{◌++◌, List, ℕ, length, ap, arith}
 use Rattle.std.proofs.lemmas.List.{drop-replicate}
-use Rattle.sctp_socket.specs.declared.peer.Host.{Host}
 use Rattle.sctp_socket.proofs.peer.Host.new.Goals as goal
 
 pub returns : goal.returns

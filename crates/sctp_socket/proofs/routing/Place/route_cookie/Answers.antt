@@ -1,4 +1,4 @@
-use Rattle.std.proofs.Common.{◌≡◌, ap, ◌∙◌}
+use Rattle.std.proofs.Common.{ap, ◌∙◌}
 use Rattle.sctp_model.specs.end.Opening.{CookieRead}
 use Rattle.sctp_socket.specs.Routing.{listener_at, route_of_echo}
 use Rattle.sctp_socket.proofs.ListeningLemmas.{is_there}
