@@ -22,6 +22,8 @@ enum {
     PORT = 5001,         /* of SCTP */
     LONGEST = 4096,      /* bytes of a message */
     LONGEST_WHO = 256,   /* bytes of a name and a secret */
+    MOST = 10000,        /* clients */
+    MOST_UNKNOWN = 2000, /* clients at one IP address that haven't said who they are */
     PACKETS_A_TURN = 64,
     BUFFER = 65536,      /* bytes of a receive buffer: there is one stream, and its messages are shorter */
     FIRST = 30000,       /* ms for a client to say who it is: what is lost is sent again after 1, 3, 7 and 15 seconds */
@@ -34,7 +36,7 @@ enum {
 struct client {
     struct client *next;
     struct sctp_endpoint end;
-    struct sockaddr_in at; /* where the last packet with its tag was received from */
+    struct sockaddr_in at; /* the port is the one that the last packet with its tag was received from */
     uint32_t tag;          /* of packets to the server: the client is found by it */
     uint32_t peer_tag;     /* of packets to the client, and of those with the T bit from it */
     bool missed;           /* a message to it couldn't be queued */
@@ -118,7 +120,7 @@ static void say(struct client *to, uint32_t what, const char *bytes, size_t leng
     if (result != SCTP_EP_OK && result != SCTP_EP_NOT_OPEN) to->missed = true; /* its next turn aborts it. One that isn't open is leaving */
 }
 
-/* A client says who it is. If another one has the name, the secret decides: with it the peer was restarted, and the old endpoint is freed; without,
+/* A client says who it is. If another one has the name, the secret decides: with it the peer was restarted, and the old endpoint is aborted; without,
  * this client is turned out. Addresses decide nothing. */
 static bool join(struct client *c, const uint8_t *bytes, size_t length) {
     const uint8_t *space = memchr(bytes, ' ', length);
@@ -127,7 +129,7 @@ static bool join(struct client *c, const uint8_t *bytes, size_t length) {
     if (name == 0 || length > LONGEST_WHO) return turn_out(c, "a name, a space, a secret"), false;
     while (old && !(old->length > 0 && old->name == name && memcmp(old->who, bytes, name) == 0)) old = old->next;
     if (old && (old->length != length || memcmp(old->who, bytes, length) != 0)) return turn_out(c, "the name is taken"), false;
-    if (old) drop(old);
+    if (old) turn_out(old, "there is another one with this name and secret"); /* a restarted client has another tag, and ignores it */
     memcpy(c->who, bytes, length), c->length = length, c->name = name;
     say(c, TALK, "welcome", 7);
     return true;
@@ -173,6 +175,13 @@ static uint64_t turn(struct client *c) {
     return now < deadline && deadline < s.next_moment ? deadline : s.next_moment;
 }
 
+/* A client more at this address is too many. */
+static bool is_full(const struct sockaddr_in *from) {
+    int all = 0, unknown = 0;
+    for (struct client *c = clients; c; c = c->next) all++, unknown += c->length == 0 && c->at.sin_addr.s_addr == from->sin_addr.s_addr;
+    return all > MOST || unknown > MOST_UNKNOWN;
+}
+
 /* A packet for no client: a new listener answers it. Only a COOKIE ECHO whose cookie was made for this very address begins a client. */
 static void meet(const uint8_t *packet, size_t length, const struct sockaddr_in *from, uint16_t source) {
     static uint8_t answer[SCTP_EP_LONGEST_PACKET];
@@ -190,7 +199,8 @@ static void meet(const uint8_t *packet, size_t length, const struct sockaddr_in 
     if (verdict.verdict == SCTP_EP_ANSWER) put(from, answer, verdict.length);
     if (sctp_endpoint_own_tag(&c->end, &c->tag) == SCTP_EP_OK) {
         c->at = *from, c->opened = c->heard = now, c->next = clients, clients = c;
-        if (take(c)) turn(c);
+        if (is_full(from)) turn_out(c, "too many clients"); /* its tag is kept */
+        else if (take(c)) turn(c);
     } else sctp_endpoint_free(&c->end), free(c);
 }
 
@@ -204,16 +214,22 @@ static void pass(struct client *c, const uint8_t *packet, size_t length, const s
     if (take(c)) turn(c); /* its acknowledgement goes out at once */
 }
 
+/* From the client's IP address: its port may change, as a NAT's does. */
+static bool is_at(const struct client *c, const struct sockaddr_in *from) {
+    return c->at.sin_addr.s_addr == from->sin_addr.s_addr;
+}
+
 static void receive(const uint8_t *packet, size_t length, const struct sockaddr_in *from) {
     uint16_t source = 0, destination = 0;
     uint32_t tag = 0;
     if (length < 16 || sctp_endpoint_peek_packet(packet, length, &source, &destination, &tag) != SCTP_EP_OK) return;
     if ((packet[12] == ABORT || packet[12] == SHUTDOWN_COMPLETE) && (packet[13] & 1) != 0) { /* the T bit: the client's endpoint ended */
         for (struct client *c = clients, *after; c; c = after)
-            if (after = c->next, c->peer_tag == tag) pass(c, packet, length, from);
+            if (after = c->next, c->peer_tag == tag && is_at(c, from)) pass(c, packet, length, from);
         return;
     }
     struct client *c = with_tag(clients, tag);
+    if (c && !is_at(c, from)) return; /* else who has an association has others' addresses sent to */
     if (c) pass(c, packet, length, from);
     else if (packet[12] != COOKIE_ECHO || !with_tag(gone, tag)) meet(packet, length, from, source); /* else it is late: what followed it was delivered */
 }

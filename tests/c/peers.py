@@ -1,10 +1,10 @@
 #!/usr/bin/env python3
 """Tries examples/c/server.c, by clients over UDP: tests/c/peers.py SERVER, with SCTP_ENDPOINT_LIBRARY and PYTHONPATH=bindings/python.
 
-Clients are restarted, change their port, lose their port to another client, are impersonated by a COOKIE ECHO that was made for another address, send old
-packets again once they are gone, lose their last packet, read nothing; and a thousand call at once over a link that loses a twentieth of the packets each
-way. It prints a line a trial, and ends with 1 if a client is lost, or gets a message twice or not at all. `peers.py SERVER 100` has a hundred clients in
-place of the thousand."""
+Clients are restarted, change their port, lose their port to another client, are impersonated by a COOKIE ECHO that was made for another address, have a
+packet sent from another address, run twice, send old packets again once they are gone, lose their last packet, read nothing; and a thousand call at once
+over a link that loses a twentieth of the packets each way. It prints a line a trial, and ends with 1 if a client is lost, or gets a message twice or not
+at all. `peers.py SERVER 100` has a hundred clients in place of the thousand."""
 
 import random
 import resource
@@ -170,6 +170,27 @@ class Trials:
         silent = victim.end.counts().packets_in == before  # no association was begun in its name: no COOKIE ACK
         self.tell("a COOKIE ECHO made for another address", silent and self.heard(victim, watcher, "me") and self.heard(watcher, victim, "you"))
 
+    def moved(self):
+        watcher, client = self.joined("watcher-m", sctp_port=6000), self.joined("staying")
+        with socket.socket(socket.AF_INET, socket.SOCK_DGRAM) as elsewhere:
+            elsewhere.bind(("127.0.0.9", 0))
+            elsewhere.settimeout(1)
+            good = self.heard(client, watcher, "before")
+            elsewhere.sendto(client.packets[-1], self.server)
+            time.sleep(0.1)
+            good &= self.heard(watcher, client, "after")
+            try:
+                good &= len(elsewhere.recv(65536)) < 0
+            except TimeoutError:
+                pass
+        self.tell("a client's packet from another address: nothing is sent there", good)
+
+    def twice(self):
+        watcher, first = self.joined("watcher-t", sctp_port=6000), self.joined("double")
+        second = self.joined("double")
+        run([first], lambda: first.ended is not None, 10)
+        self.tell("a program that runs twice: the first one hears that it is out", first.ended == Ended.ABORTED and self.heard(watcher, second, "you"))
+
     def late(self):
         watcher, client = self.joined("watcher-o", sctp_port=6000), self.joined("leaving")
         good = self.heard(client, watcher, "once")
@@ -248,6 +269,8 @@ def main(words):
         trials.changed_port()
         trials.lost_port()
         trials.forged()
+        trials.moved()
+        trials.twice()
         trials.late()
         trials.lost_end()
         trials.full()

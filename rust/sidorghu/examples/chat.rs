@@ -64,7 +64,7 @@ fn take_line(endpoint: &mut Endpoint) -> Result<Option<String>, NoMemory> {
 /// Someone in the chat.
 struct Member {
     endpoint: Endpoint,
-    /// Where the last packet that was taken was received from.
+    /// Its IP address, and the port that the last packet that was taken was received from: a NAT may change the port (RFC 6951, 5.4).
     at: SocketAddr,
     /// That of the packets to it, and of those with the T bit from it.
     peer_tag: Option<u32>,
@@ -97,11 +97,11 @@ impl Server {
         let Some(header) = peek_packet(packet) else { return Ok(()) };
         // an ABORT, 6, or a SHUTDOWN COMPLETE, 14, with the T bit: the endpoint that sent it is over
         if matches!(packet[12..], [6 | 14, flags, ..] if flags & 1 == 1) {
-            let mut theirs = self.members.values_mut().filter(|member| member.peer_tag == Some(header.tag));
+            let mut theirs = self.members.values_mut().filter(|member| member.at.ip() == from.ip() && member.peer_tag == Some(header.tag));
             return theirs.try_for_each(|member| member.handle(&self.socket, packet, from, now));
         }
         if let Some(member) = self.members.get_mut(&header.tag) {
-            return member.handle(&self.socket, packet, from, now);
+            return if member.at.ip() == from.ip() { member.handle(&self.socket, packet, from, now) } else { Ok(()) };
         }
         let endpoint = Endpoint::listener(config(5_001, 5_000)?, Key::derived(&self.secret, from.to_string().as_bytes()));
         let mut member = Member { endpoint, at: from, peer_tag: None, name: from.to_string(), last: now };
