@@ -2,7 +2,7 @@
 # Associations over paths in virtual time: the library for C and usrsctp in one process, under one clock. It prints how long the library's sender
 # takes beside usrsctp's, over the same links and to the same receivers; what each of two senders gets of one queue; and how long messages take to
 # a user that reads at times. tests/links/README.md says how the rows are read.
-#   tests/links.sh                       43 links, 60 at random, shares, windows: some fifteen minutes of processor time
+#   tests/links.sh                       43 links, 60 at random, shares, windows: some ten minutes of processor time
 #   tests/links.sh --short               some of each: a minute
 #   tests/links.sh --part grid           the 43 alone; likewise random, shares, windows, and wanted: the links of which something is wanted
 #   tests/links.sh --seed 7              other links at random

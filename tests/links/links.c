@@ -180,12 +180,13 @@ static void print_flow(struct flow *flow, double all) {
     struct side *sender = &flow->side[0], *receiver = &flow->side[1];
     bool whole = settings.seconds == 0 && receiver->got >= flow->messages;
     double counted = (double)(receiver->octets - receiver->octets_before);
-    printf("{\"flow\": \"%s:%s\", \"ms\": %.0f, \"whole\": %s, \"got\": %lu, \"unordered\": %lu, \"packets\": %lu, \"repeats\": %lu, \"sacks\": %lu, "
-           "\"lost\": %lu, \"dropped\": %lu, \"share\": %.3f, \"mbit\": %.3f",
-           sender->kind->name, receiver->kind->name, (double)((whole ? receiver->last_us : now_us) - flow->opened_us) / 1000, whole ? "true" : "false",
+    printf("{\"flow\": \"%s:%s\", \"ms\": %.0f, \"whole\": %s, \"ended\": %s, ", sender->kind->name, receiver->kind->name,
+           (double)((whole ? receiver->last_us : now_us) - flow->opened_us) / 1000, whole ? "true" : "false",
+           sender->has_ended || receiver->has_ended ? "true" : "false");
+    printf("\"got\": %lu, \"unordered\": %lu, \"packets\": %lu, \"repeats\": %lu, \"sacks\": %lu, \"lost\": %lu, \"dropped\": %lu, ",
            (unsigned long)receiver->got, (unsigned long)receiver->unordered, (unsigned long)sender->packets, (unsigned long)sender->repeats,
-           (unsigned long)receiver->sacks, (unsigned long)sender->out->losses, (unsigned long)sender->out->drops, all > 0 ? counted / all : 0,
-           settings.seconds > 0 ? counted * 8 / settings.seconds / 1e6 : 0);
+           (unsigned long)receiver->sacks, (unsigned long)sender->out->losses, (unsigned long)sender->out->drops);
+    printf("\"share\": %.3f, \"mbit\": %.3f", all > 0 ? counted / all : 0, settings.seconds > 0 ? counted * 8 / settings.seconds / 1e6 : 0);
     if (flow->has_begun) sender->kind->report(sender);
     printf("}\n");
 }

@@ -37,7 +37,7 @@ class Runs:
     """Runs the program, and keeps what is wrong with a run."""
 
     def __init__(self, asked):
-        self.asked, self.faults, self.count, self.out, self.kept = asked, [], 0, None, {}
+        self.asked, self.faults, self.count, self.ended, self.out, self.kept = asked, [], 0, 0, None, {}
         self.sender = 'lines' if asked.program else 'ours'
         self.words = configured(asked.words) + (['program=' + asked.program, 'words=' + ' '.join(asked.words)] if asked.program else [])
         if asked.keep:
@@ -77,15 +77,18 @@ class Runs:
         self.faults.append('%s: %s' % (' '.join(words), what))
 
     def transfer(self, link, sender, receiver, more):
-        """(the mean of the seeds' milliseconds, of the packets with data sent again)"""
-        seeds, size = link.seeds(self.asked.seeds), self.asked.bytes or link.bytes()
-        found = []
+        """(the mean of the seeds' milliseconds, of the packets with data sent again), of the runs in which the association doesn't end before"""
+        seeds, size, whole = link.seeds(self.asked.seeds), self.asked.bytes or link.bytes(), []
         for seed in range(1, seeds + 1):
             settings = [*link.settings, *more, 'bytes=%d' % size, 'seed=%d' % seed]
-            found += self.run('%s:%s' % (sender, receiver), *settings)
-            if not found[-1]['whole']:
+            flow, = self.run('%s:%s' % (sender, receiver), *settings)
+            whole += [flow] if flow['whole'] else []
+            self.ended += flow['ended'] and not flow['whole']
+            if not flow['whole'] and not flow['ended']:
                 self.fault([sender, *settings], 'not all arrived within %d s' % LIMIT)
-        return statistics.mean(flow['ms'] for flow in found), statistics.mean(flow['repeats'] for flow in found)
+        if not whole:
+            fail('no run arrives of ' + link.name)
+        return statistics.mean(flow['ms'] for flow in whole), statistics.mean(flow['repeats'] for flow in whole)
 
 
 def configured(words):
@@ -229,7 +232,9 @@ def main():
         print_shares(runs)
     if 'windows' in parts:
         print_windows(runs)
-    print('\n%d runs; %s' % (runs.count, '; '.join(runs.faults) or 'in each all messages arrived, in order'))
+    if runs.ended:
+        print('\n%d runs ended by a limit of retransmissions, and don\'t count in the means' % runs.ended)
+    print('\n%d runs; %s' % (runs.count, '; '.join(runs.faults) or 'in each all messages arrived, in order, unless it ended before'))
     return 1 if runs.faults else 0
 
 
