@@ -42,6 +42,7 @@ mod sctp_rows {
         chunks_in_states => "Each chunk in each state",
         calls_in_states => "Each call in each state",
         options => "Two ends that differ: lines options",
+        two_clocks => "A clock for each endpoint: lines later and moment",
         congestion_control => "Fast retransmission, congestion control, RTO.Min",
         stream_reset => "Stream reset",
         examples => "The examples",
