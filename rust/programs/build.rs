@@ -10,6 +10,7 @@ fn main() {
         "sctp_channel_rows",
         "sctp_broken",
         "sctp_example",
+        "sctp_socket",
         "sctp_tests",
     ]);
 }

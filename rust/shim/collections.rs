@@ -1,5 +1,7 @@
 //! `std::collections` of Rattle: a `VecDeque` whose growth can fail. Its capacities are those of Rust's, which are Rattle's.
 
+pub use super::maps::BTreeMap;
+
 use super::alloc::{AllocError, AllocFailed, Global};
 use super::marker::PhantomData;
 use super::ops::{Index, IndexMut};

@@ -16,6 +16,7 @@ pub mod collections;
 pub mod ffi;
 mod lists;
 pub(crate) mod macros;
+mod maps;
 #[cfg(any(test, feature = "std"))]
 pub mod runtime;
 pub mod simd;

@@ -96,14 +96,14 @@ pub mod io {
 
 /// `std::test` of Rattle.
 pub mod test {
-    /// Why a test failed: any error.
+    /// Why a test failed: any error, or a text.
     #[derive(Debug)]
     #[allow(dead_code)]
     pub struct Fail(std::string::String);
 
-    impl<E: std::error::Error> From<E> for Fail {
+    impl<E: Into<std::boxed::Box<dyn std::error::Error>>> From<E> for Fail {
         fn from(error: E) -> Fail {
-            Fail(std::format!("{error:?}"))
+            Fail(std::format!("{:?}", error.into()))
         }
     }
 }

@@ -79,7 +79,8 @@ fn no_source_ends_the_program() {
 fn a_bound_at_the_beginning_is_refused() {
     let (none, laws) = (BTreeSet::new(), Laws::default());
     let place = Place { crate_name: "mine", crates: &none, libraries: &none, laws: &laws };
-    for text in ["Drop", "+ Drop", ": Drop", "T: Drop", "where T: Drop {", "a + Drop", "::T: Drop", "where ::T: Drop {", "a::T: Drop", "<a::T: Drop"] {
+    for text in ["Drop", "+ Drop", ": Drop", "T: Drop", "where T: Drop {", "a + Drop", "::T: Drop", "where ::T: Drop {", "a::T: Drop", "<a::T: Drop"]
+    {
         assert!(erase("a.rt", text, &place).is_err(), "{text}");
     }
 }

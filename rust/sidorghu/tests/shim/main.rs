@@ -17,6 +17,7 @@ mod sha2;
 mod blocks;
 mod deques;
 mod hashes;
+mod maps;
 mod numbers;
 mod refusing;
 mod texts;
