@@ -5,7 +5,7 @@ use Rattle.std.proofs.lemmas.Bool.{cases_lt}
 use Rattle.std.proofs.lemmas.List.Elements.{All-nil, All-cons, All-head, All-tail}
 use Rattle.sctp_model.specs.end.Sealing.{Sealing}
 use Rattle.sctp_model.specs.world.World.{World, start}
-use Rattle.sctp_model.specs.world.Events.{Event, OpenBoth, At, Drawing, Connect, Build, Deliver, Foreign, Send, Abandon, Take, Reset, WasReset, Shutdown, Abort}
+use Rattle.sctp_model.specs.world.Events.{Event, OpenBoth, Later, Moment, At, Drawing, Connect, Build, Deliver, Foreign, Send, Abandon, Take, Reset, WasReset, Shutdown, Abort}
 use Rattle.sctp_cookie.specs.Seals.{IsUnder}
 use Rattle.sctp_packet.specs.PacketLaws.{ReadInOneWay}
 use Rattle.sctp_outcomes.specs.Outcomes.{CanHappen, EventsHaveOutcomes}
@@ -48,6 +48,8 @@ pub record HasEvent (wanted : Wanted) : Type 0 where
 
 is_event : (e : Event) → CanBe (Happens e) → HasEvent (Happens e)
 is_event (OpenBoth x y) can = record { event = OpenBoth x y; meant = refl; can = λ w. can }
+is_event (Later s m) can = record { event = Later s m; meant = refl; can = λ w. can }
+is_event (Moment s) can = record { event = Moment s; meant = refl; can = λ w. tt }
 is_event (At m) can = record { event = At m; meant = refl; can = λ w. can }
 is_event (Drawing d) can = record { event = Drawing d; meant = refl; can = λ w. can }
 is_event (Connect d) can = record { event = Connect d; meant = refl; can = λ w. can }
