@@ -1,9 +1,10 @@
 #!/usr/bin/env python3
 """The library over real UDP sockets through a bottleneck, beside other flows: run.py PROGRAMS [--seconds N] [--runs N] [WORD ..].
 
-PROGRAMS is a folder with relay, sctp, tcp and, if libusrsctp is there, usrsctp. Each measurement is a line: its name, the Mbit/s of each flow's user
-after the fifth second, the share of the first, and how late the relay was. A run in which it was late says nothing of the flows: it is thrown away,
-which a line says, and made again, three times at most. Words: `alone`, `beside`, `outages`, `port`; all else. Root."""
+PROGRAMS is a folder with relay, sctp, tcp, many and, if libusrsctp is there, usrsctp. Each measurement is a line: its name, the Mbit/s of each
+flow's user after the fifth second, the share of the first, and how late the relay was. A run in which it was late says nothing of the flows: it is
+thrown away, which a line says, and made again, three times at most. Words: `alone`, `beside`, `outages`, `port`, `many` (2,000 associations through
+one socket, over the loopback interface); without one all. Root."""
 
 import argparse
 import os
@@ -15,7 +16,7 @@ import time
 DELAY, SETTLES, WAIT = 20, 5, 30                        # ms each way; seconds that don't count; seconds more that a program may take
 LATE_MEAN, LATE_MOST, TRIES = 1.0, 10.0, 3              # ms, of a second, beyond which the relay was late
 LINKS = ((10, 50), (10, 200), (50, 50), (50, 200))      # Mbit/s, packets
-ADDRESSES = ('10.9.0.1', '10.9.0.2')
+ADDRESSES, ASSOCIATIONS = ('10.9.0.1', '10.9.0.2'), 2000
 
 
 class Network:
@@ -151,6 +152,13 @@ def port(asked):
         print('the rate in the seconds from the fifth on: %s Mbit/s' % ' '.join('%.1f' % (run.bytes[0].get(second, 0) * 8e-6) for second in range(5, 13)))
 
 
+def many(asked):
+    words = ('serve', 7100, asked.seconds + 2), ('call', 7101, '127.0.0.1', 7100, asked.seconds, ASSOCIATIONS)
+    both = [subprocess.Popen([os.path.join(asked.programs, 'many'), *map(str, it)], stdout=subprocess.PIPE, text=True) for it in words]
+    for name, one in zip(('the server', 'the caller'), both):
+        print('many associations through one socket: %s: %s' % (name, one.communicate(timeout=asked.seconds + WAIT)[0].strip()))
+
+
 def main():
     parser = argparse.ArgumentParser()
     parser.add_argument('programs')
@@ -158,7 +166,7 @@ def main():
     parser.add_argument('--seconds', type=int, default=60)
     parser.add_argument('--runs', type=int, default=3)
     asked = parser.parse_intermixed_args()
-    parts = {'alone': alone, 'beside': beside, 'outages': outages, 'port': port}
+    parts = {'alone': alone, 'beside': beside, 'outages': outages, 'port': port, 'many': many}
     if set(asked.words) - set(parts):
         parser.error('words: %s' % ', '.join(parts))
     for word in asked.words or parts:
