@@ -53,11 +53,19 @@ class Network:
     def end(self):
         """(the lines of each receiver, those of each sender, those of the relay)"""
         try:
-            said = [[one.communicate(timeout=self.longest)[0].splitlines() for one in flow] for flow in self.flows]
-            relay = self.relay.communicate(timeout=self.longest)[0].splitlines()
+            said = [[self.lines(one) for one in flow] for flow in self.flows]
+            relay = self.lines(self.relay)
             return [received for received, _ in said], [sent for _, sent in said], relay
         finally:
             self.close()
+
+    def lines(self, process):
+        """What a program writes until it ends; one whose association didn't open is killed."""
+        try:
+            return process.communicate(timeout=self.longest)[0].splitlines()
+        except subprocess.TimeoutExpired:
+            process.kill()
+            return process.communicate()[0].splitlines()
 
     def close(self):
         for one in [self.relay] + [it for flow in self.flows for it in flow]:
