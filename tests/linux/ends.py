@@ -4,7 +4,7 @@ import os
 
 from association import TO_LINUX, Association, Job, Path, clock, config_of, need, now, opened, ports, prepare
 from kernel import HOST
-from packets import ABORT, COOKIE_ECHO, DATA, HEARTBEAT, HEARTBEAT_ACK, chunks, has, printed
+from packets import ABORT, COOKIE_ECHO, DATA, HEARTBEAT, HEARTBEAT_ACK, INIT, chunks, has, printed
 from sctp_endpoint import Endpoint, Ended, State
 from trial import exchange, open_and_greet, trial
 
@@ -86,8 +86,15 @@ def both_call(kernel):
     kernel.tell('make %d 10 10' % (own + 1))
     association = Association(kernel, Endpoint.caller(config), config, Path(delay=0.1), own + 1)
     association.run(10, association.told)
+    called = []
+
+    def watch(way, packet):
+        called.extend([packet] if not way and has(packet, INIT) else [])
+        return packet
+    association.watch = watch
     kernel.tell('connect %s %d' % (HOST, own))
-    association.endpoint.connect(now())
+    need(association.run(20, lambda: bool(called)), 'Linux doesn\'t call:', association.seen)
+    association.endpoint.connect(now())                 # before that INIT arrives
     need(association.run(90, association.is_up), 'not opened:', association.seen)
     exchange(association)
     association.close()
