@@ -13,7 +13,7 @@ import time
 HOST_CARD, KERNEL_CARD = bytes.fromhex('020000000001'), bytes.fromhex('020000000002')
 HOST, KERNEL = '10.0.0.1', '10.0.0.2'
 IP, ARP, SCTP, UDP = 0x0800, 0x0806, 132, 17
-BOOTS, LINES_AT_ONCE, PATIENCE = 300, 8, 20         # seconds; the console loses what it has no space for; seconds
+BOOTS, LINES_AT_ONCE, PATIENCE = 900, 8, 20         # seconds; the console loses what it has no space for; seconds
 
 
 def modules(folder):
