@@ -116,8 +116,8 @@ enum sctp_channel_event_kind {
     SCTP_CH_INCOMING = 1,           /* the peer opened a channel: its parameters; its label and its protocol are in the buffer. It is open */
     SCTP_CH_OPENED = 2,             /* a channel that was opened here is open at the peer, too */
     SCTP_CH_MESSAGE = 3,            /* a message, which is in the buffer: `text`, or binary */
-    SCTP_CH_CLOSED = 4,             /* a channel is closed both ways, or the association is over. Another one may be opened on its stream */
-    SCTP_CH_REFUSED = 5,            /* the peer began what opens no channel, for this reason; what else it sends on the stream is ignored until it resets it */
+    SCTP_CH_CLOSED = 4,             /* a channel that was opened here or INCOMING is closed both ways, or the association is over. Another one may be opened on its stream */
+    SCTP_CH_REFUSED = 5,            /* the peer began what opens no channel, for this reason; the stream is reset, and what else the peer sends on it is ignored until it resets it, too. No CLOSED follows */
     SCTP_CH_IGNORED = 6,            /* a message of the peer is ignored, for this reason */
     SCTP_CH_BUFFERED_AMOUNT_LOW = 7 /* the buffered amount was above the channel's threshold, and is at most that now */
 };

@@ -11,6 +11,8 @@
 #   tests/usrsctp.sh --shares congestion-control    two associations through one queue, 120 s (shares.py): some ten minutes
 #   tests/usrsctp.sh --streams       fifty streams, reset again and again by the endpoint, by usrsctp and by both, 10 percent lost,
 #                                    and as channels that either closes (streams.py): a minute; --lost 5 --seeds 8 --first 9 likewise
+#   tests/usrsctp.sh --again         three streams that the endpoint resets again with nothing sent between: each second request names its first twice
+#                                    (again.py): some seconds
 #   tests/usrsctp.sh --figures --model, --program PATH    the model, or this program, in place of sctp-end
 # Without libusrsctp the figures and shares have the model as the receiver. Status of these and of the streams: 0 if all is as wanted, 1 if not,
 # 3 as below. Of the closings:
@@ -27,12 +29,12 @@ echo '#include <usrsctp.h>' >"$room/look.c"
 echo 'int main(void) { return usrsctp_finish(); }' >>"$room/look.c"
 script=exchanges.py
 case ${1-} in
---figures | --shares | --streams) script=${1#--}.py; shift ;;
+--figures | --shares | --streams | --again) script=${1#--}.py; shift ;;
 esac
 peer=$room/peer
 if cc -o "$room/look" "$room/look.c" -lusrsctp 2>"$room/said"; then
     cc -std=gnu11 -O2 -Wall -Wextra -o "$peer" "$root/tests/usrsctp/peer.c" -lusrsctp || exit 3
-elif [ $script = exchanges.py ] || [ $script = streams.py ]; then
+elif [ $script = exchanges.py ] || [ $script = streams.py ] || [ $script = again.py ]; then
     echo "libusrsctp isn't installed: nothing was run"
     exit 2
 else

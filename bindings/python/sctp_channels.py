@@ -120,14 +120,14 @@ class MessageReceived:
 
 @dataclass(frozen=True)
 class Closed:
-    """A channel is closed both ways, or the association is over. Another one may be opened on its stream."""
+    """A channel that was opened here or incoming is closed both ways, or the association is over. Another one may be opened on its stream."""
 
     stream: int
 
 
 @dataclass(frozen=True)
 class RefusedOpening:
-    """The peer began what opens no channel. What else it sends on the stream is ignored until it resets it."""
+    """The peer began what opens no channel. The stream is reset, and what else the peer sends on it is ignored until it resets it, too. No `Closed` follows."""
 
     stream: int
     reason: ChannelReason

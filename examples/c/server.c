@@ -23,7 +23,7 @@ enum {
     LONGEST = 4096,      /* bytes of a message */
     LONGEST_WHO = 256,   /* bytes of a name and a secret */
     MOST = 10000,        /* clients */
-    MOST_UNKNOWN = 2000, /* clients at one IP address that haven't said who they are */
+    MOST_UNKNOWN = 2000, /* clients at one IP address that haven't said who they are; and those that are gone and whose cookies live */
     PACKETS_A_TURN = 64,
     BUFFER = 65536,      /* bytes of a receive buffer: there is one stream, and its messages are shorter */
     FIRST = 30000,       /* ms for a client to say who it is: what is lost is sent again after 1, 3, 7 and 15 seconds */
@@ -210,13 +210,20 @@ static void pass(struct client *c, const uint8_t *packet, size_t length, const s
     struct sctp_endpoint_draw d = draw();
     if (sctp_endpoint_handle_packet(&c->end, now, packet, length, &d, answer, sizeof answer, &verdict) != SCTP_EP_OK) return;
     if (verdict.verdict == SCTP_EP_ANSWER) put(from, answer, verdict.length);
-    if (verdict.verdict == SCTP_EP_TAKEN) c->at = *from, c->heard = now; /* its tag was right: the client may have a new port */
+    if (verdict.verdict == SCTP_EP_TAKEN && packet[12] != COOKIE_ECHO) c->at = *from, c->heard = now; /* the client may have a new port */
     if (take(c)) turn(c); /* its acknowledgement goes out at once */
 }
 
 /* From the client's IP address: its port may change, as a NAT's does. */
 static bool is_at(const struct client *c, const struct sockaddr_in *from) {
     return c->at.sin_addr.s_addr == from->sin_addr.s_addr;
+}
+
+/* A COOKIE ECHO that begins nothing: it is late, and what followed it was delivered; or too many of this IP address have come and gone. */
+static bool is_over(uint32_t tag, const struct sockaddr_in *from) {
+    int left = 0;
+    for (const struct client *c = gone; c; c = c->next) left += is_at(c, from);
+    return left > MOST_UNKNOWN || with_tag(gone, tag);
 }
 
 static void receive(const uint8_t *packet, size_t length, const struct sockaddr_in *from) {
@@ -231,7 +238,7 @@ static void receive(const uint8_t *packet, size_t length, const struct sockaddr_
     struct client *c = with_tag(clients, tag);
     if (c && !is_at(c, from)) return; /* else who has an association has others' addresses sent to */
     if (c) pass(c, packet, length, from);
-    else if (packet[12] != COOKIE_ECHO || !with_tag(gone, tag)) meet(packet, length, from, source); /* else it is late: what followed it was delivered */
+    else if (packet[12] != COOKIE_ECHO || !is_over(tag, from)) meet(packet, length, from, source);
 }
 
 int main(int argc, char **argv) {

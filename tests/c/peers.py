@@ -2,9 +2,9 @@
 """Tries examples/c/server.c, by clients over UDP: tests/c/peers.py SERVER, with SCTP_ENDPOINT_LIBRARY and PYTHONPATH=bindings/python.
 
 Clients are restarted, change their port, lose their port to another client, are impersonated by a COOKIE ECHO that was made for another address, have a
-packet sent from another address, run twice, send old packets again once they are gone, lose their last packet, read nothing; and a thousand call at once
-over a link that loses a twentieth of the packets each way. It prints a line a trial, and ends with 1 if a client is lost, or gets a message twice or not
-at all. `peers.py SERVER 100` has a hundred clients in place of the thousand."""
+packet sent from another address or a COOKIE ECHO from another port, run twice, send old packets again once they are gone, lose their last packet, read
+nothing; and a thousand call at once over a link that loses a twentieth of the packets each way. It prints a line a trial, and ends with 1 if a client is
+lost, or gets a message twice or not at all. `peers.py SERVER 100` has a hundred clients in place of the thousand."""
 
 import random
 import resource
@@ -185,6 +185,21 @@ class Trials:
                 pass
         self.tell("a client's packet from another address: nothing is sent there", good)
 
+    def repeated_echo(self):
+        watcher, client = self.joined("watcher-c", sctp_port=6000), self.joined("recorded")
+        echo = next(packet for packet in client.packets if is_one(packet, COOKIE_ECHO))
+        with socket.socket(socket.AF_INET, socket.SOCK_DGRAM) as elsewhere:
+            elsewhere.bind(("127.0.0.1", 0))
+            elsewhere.settimeout(1)
+            elsewhere.sendto(echo, self.server)
+            time.sleep(0.1)
+            good = self.heard(watcher, client, "after")
+            try:
+                good &= len(elsewhere.recv(65536)) < 0
+            except TimeoutError:
+                pass
+        self.tell("a client's COOKIE ECHO again from another port: nothing is sent there", good)
+
     def twice(self):
         watcher, first = self.joined("watcher-t", sctp_port=6000), self.joined("double")
         second = self.joined("double")
@@ -270,6 +285,7 @@ def main(words):
         trials.lost_port()
         trials.forged()
         trials.moved()
+        trials.repeated_echo()
         trials.twice()
         trials.late()
         trials.lost_end()

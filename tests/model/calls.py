@@ -382,6 +382,11 @@ class Case:
         sender.resets.on_response(sequence_number, code)
         return shown_request(sender)
 
+    def on_retry(self):
+        sender = self.of(self.sender)
+        sender.resets.retry()
+        return shown_request(sender)
+
     # ---- Resets of streams: at a receiver ----
 
     def on_reconfig(self, value, limit=str(GREATEST_PACKET)):

@@ -2,7 +2,8 @@
 """Runs random schedules of data channels through `crates/sctp_channel_rows` and through the model, with the law of channels tested along each.
 
 channel_compare.py [--program 'P WORDS'] N [SEED]: each schedule that differs is told, with its first such line, and kept in tests/model/found.
---odd: random messages, DCEP and others, at an open end, a thousand a schedule. --only-model runs no program. --jobs N: so many at once.
+--odd: random messages, DCEP and others, at an open end, a thousand a schedule. --closings: channels that are closed and opened anew at once
+(channel_closings.py). --only-model runs no program. --jobs N: so many at once.
 --cases FOLDER runs none either, and writes schedules and outputs that are wanted as `rt try --cases` reads them.
 """
 
@@ -12,6 +13,7 @@ import subprocess
 import sys
 from multiprocessing import Pool
 
+from channel_closings import Closings
 from channel_law import Broken
 from channel_schedules import Odd, Schedule
 
@@ -71,10 +73,11 @@ def main():
     words.add_argument('--program', default=HERE + '/../../crates/sctp_channel_rows/out/sctp_channel_rows')
     words.add_argument('--cases')
     words.add_argument('--odd', action='store_true')
+    words.add_argument('--closings', action='store_true')
     words.add_argument('--only-model', action='store_true')
     words.add_argument('--jobs', type=int, default=2)
     asked = words.parse_args()
-    maker, size = (Odd, 8) if asked.odd else (Schedule, BATCH)
+    maker, size = (Odd, 8) if asked.odd else (Closings if asked.closings else Schedule, BATCH)
     seeds = range(asked.seed, asked.seed + asked.count)
     batches = [list(seeds[at:at + size]) for at in range(0, len(seeds), size)]
     lines = contents = 0

@@ -52,12 +52,36 @@ class Course:
 
 
 class Law:
-    """Watches two ends. The channels of a stream are counted at each side by what it reports closed."""
+    """Watches two ends. The channels of a stream are counted at each side by how often it is free again: a closed channel is reported, an
+    opening that was refused or a stream without a channel isn't."""
 
     def __init__(self, ends):
         self.ends, self.courses, self.channel, self.contents = ends, {}, {}, 0
         self.excused = set()              # channels of which something was ignored
-        ends.sent, ends.told = self.sent, self.told
+        self.freed = None                 # what an event that isn't reported yet frees
+        ends.made, ends.sent, ends.told = self.watch, self.sent, self.told
+
+    def watch(self, side):
+        """Notes what is freed at this side: behind an event once that is reported."""
+        over = self.ends.ends[side]
+        if isinstance(over, Channels):
+            leave, next_event = over.leave, over.next_event
+
+            def left(stream):
+                leave(stream)
+                if self.freed is None:
+                    self.free(side, stream)
+                else:
+                    self.freed.append((side, stream))
+
+            def event():
+                self.freed = []
+                return next_event()
+
+            over.leave, over.next_event = left, event
+
+    def free(self, side, stream):
+        self.channel[side, stream] = self.channel.get((side, stream), 0) + 1
 
     def count(self, side, stream):
         """Which channel of the stream it is, at an end that counts them."""
@@ -76,12 +100,14 @@ class Law:
         name, stream, *more = event or ('nothing', None)
         if name == 'closed':
             self.closed(side, stream)
-            self.channel[side, stream] = self.channel.get((side, stream), 0) + 1
         elif name == 'message':
             self.contents += 1
             self.course(OTHER[side], stream, self.count(side, stream)).tell(*more)
         elif name in ('ignored', 'refused'):
             self.excused.add((OTHER[side], stream, self.count(side, stream)))
+        for freed in self.freed or ():
+            self.free(*freed)
+        self.freed = None
 
     def closed(self, side, stream):
         """While the association lives: all that was sent on a reliable channel was reported before."""

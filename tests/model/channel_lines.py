@@ -10,7 +10,7 @@ import dcep
 import wire
 from channels import RESET_REFUSALS, SEND_REFUSALS, Channels, Refused
 from dcep import Opening
-from endpoint import Config, Endpoint
+from endpoint import CLOSED, LISTEN, Config, Endpoint
 
 PORTS = {'A': (5_000, 5_001), 'B': (5_001, 5_000)}
 DRAWS = {'A': (7, 4_294_967_200), 'B': (8, 1_000)}
@@ -78,7 +78,7 @@ class Ends:
 
     def __init__(self):
         self.now, self.packets, self.ends = 0, [], {}
-        self.sent = self.told = lambda *what: None       # who is told of messages that are accepted, and of events
+        self.made = self.sent = self.told = lambda *what: None       # who is told of a side, of messages that are accepted, and of events
 
     def line(self, line):
         """The lines of the answer; none of a remark."""
@@ -107,6 +107,7 @@ class Ends:
         else:
             end = Endpoint.opened(config, DRAWS[side], DRAWS[OTHER[side]])
         self.ends[side] = end if kind == 'bare' else Channels(end, kind == 'client')
+        self.made(side)
         return ['ok']
 
     def endpoint(self, side):
@@ -182,6 +183,11 @@ class Ends:
         return ['%s %s %s %d %d' % (end.state, 'None' if end.ended is None else 'Some(%s)' % end.ended,
                                     '-' if moment is None else moment, sender.streams if sender else 0,
                                     receiver.streams if receiver else 0)]
+
+    def do_tag(self, side, _):
+        """A listener has none till a cookie opens, and no end has one once its association is over."""
+        end = self.endpoint(side)
+        return ['none' if end.state in (CLOSED, LISTEN) else 'tag %d' % end.own_tag]
 
     def do_trim(self, *_):
         return ['ok']

@@ -40,12 +40,14 @@ class Stream:
         self.closing = False          # by either side: nothing more is sent (RFC 8831, 6.7)
         self.reset_owed = False       # this side's half is still to be reset
         self.refused = False          # what the peer sent opens no channel: it must reset the stream first
+        self.silent = False           # being closed, though no channel on it was reported
         self.threshold = None         # of the buffered amount, in bytes
         self.was_above = False        # the amount was above it, and that it fell wasn't told
         self.old = None               # once the peer has reset its half: how many messages of before still wait
+        self.again = None             # once it has done so again before this channel was reported closed: the same of that
 
     def is_used(self):
-        return self.channel is not None or self.closing or self.refused
+        return self.channel is not None or self.closing or self.refused or self.silent
 
     def may_send(self):
         return self.channel is not None and not self.closing
@@ -177,17 +179,36 @@ class Channels:
         found = self.end.take_reset()
         while found is not None:
             number, count = found
-            stream = self.kept(number)
-            if stream.old is None:
-                stream.old = count
-                self.close_if_drained(stream)
+            self.peer_resets(self.kept(number), count)
             found = self.end.take_reset()
+        self.sweep(sorted(self.streams))
         return verdict
 
+    def peer_resets(self, stream, count):
+        """A second reset is of the stream's next channel: it is kept until this one is reported closed."""
+        if stream.old is None:
+            stream.old = count
+            self.close_if_drained(stream)
+        else:
+            stream.again = max(stream.old, count)
+
     def close_if_drained(self, stream):
-        """The peer's half is closed, and so is this side's (RFC 8831, 6.7)."""
-        if stream.is_drained() and not stream.closing:
-            stream.closing, stream.reset_owed, stream.ack_owed = True, True, False
+        """The peer's half is closed, and so is this side's (RFC 8831, 6.7); where no channel was reported, nothing is reported of that."""
+        if not stream.is_drained() or stream.closing or stream.silent:
+            return
+        if not stream.refused:
+            stream.reset_owed, stream.ack_owed = True, False
+        stream.closing, stream.silent = stream.channel is not None, stream.channel is None
+
+    def is_over(self, number, stream):
+        """Both halves are closed."""
+        return stream.is_drained() and not stream.reset_owed and not self.end.sender.resets.is_resetting(number)
+
+    def sweep(self, numbers):
+        """Of these streams those are free that are closed without a channel that was reported."""
+        for number in numbers:
+            if self.stream(number).silent and self.is_over(number, self.stream(number)):
+                self.leave(number)
 
     def poll_transmit(self, now):
         for number in sorted(self.streams):
@@ -204,8 +225,7 @@ class Channels:
 
     def next_event(self):
         """A tuple, or None: a channel that is closed; a message; once the association is over, a channel that is left."""
-        closed = [n for n, stream in self.streams.items() if stream.closing and stream.is_drained() and not stream.reset_owed
-                  and not self.end.sender.resets.is_resetting(n)]
+        closed = [n for n, stream in self.streams.items() if stream.closing and self.is_over(n, stream)]
         if closed:
             return self.forget(min(closed))
         low = [n for n, stream in self.streams.items() if stream.was_above and self.buffered(n) <= stream.threshold]
@@ -216,13 +236,19 @@ class Channels:
         if waiting:
             number = min(waiting, key=lambda n: (n < self.next, n))
             return self.hear(number, waiting[number])
-        used = [n for n, stream in self.streams.items() if stream.is_used()]
+        used = [n for n, stream in self.streams.items() if stream.channel is not None]
         if self.end.ended is not None and used:
             return self.forget(min(used))
         return None
 
+    def leave(self, number):
+        """The stream is free, or the peer has reset it again; once the association is over that counts no more."""
+        again = self.streams.pop(number).again
+        if again is not None and self.end.ended is None:
+            self.peer_resets(self.kept(number), again)
+
     def forget(self, number):
-        del self.streams[number]
+        self.leave(number)
         return 'closed', number
 
     def hear(self, number, message):
@@ -235,17 +261,19 @@ class Channels:
         self.end.take(number)
         self.next = (number + 1) % 65_536
         if stream.old is not None:
+            stream.again = stream.again and stream.again - 1
             stream.old = max(stream.old - 1, 0)
             self.close_if_drained(stream)
+            self.sweep([number])          # it was the last one of an opening that was refused
         return told
 
     def told(self, number, stream, payload_id, data, content):
         """What is told of a message that is taken."""
-        if stream.refused and not stream.closing:
+        if stream.refused and not stream.silent:
             return 'ignored', number, WAS_REFUSED
         if content is not None and (stream.channel is not None or stream.closing):
             return ('message', number, *content)
-        if stream.closing:
+        if stream.closing or stream.silent:
             return 'ignored', number, CLOSING
         if payload_id == dcep.DCEP:
             return self.control(number, stream, data)
@@ -278,5 +306,6 @@ class Channels:
         return 'opened', number
 
     def refuse(self, number, stream, why):
-        stream.refused = True
+        """This side's half is reset, as if a channel were closed (RFC 8832, 6)."""
+        stream.refused = stream.reset_owed = True
         return 'refused', number, why

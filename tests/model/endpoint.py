@@ -304,6 +304,11 @@ class Endpoint:
         """A request to reset streams is made as soon as it may be (RFC 6525 section 5.1.2)."""
         if self.may_reset and self.state == ESTABLISHED and self.sender.resets.ask():
             self.due.add('request')
+            self.timers['request'].wait = self.request_wait()
+
+    def request_wait(self):
+        """The RTO, where round trips are measured (RFC 6525 section 5.1.1)."""
+        return FIRST_WAIT if self.pace is None else self.pace.trips.rto(self.config.rto_min)
 
     def put_due(self, writer, names):
         """False where one didn't fit: it stays due and ends the packet."""
@@ -355,6 +360,8 @@ class Endpoint:
             self.sender.wear(self.sender.above_cum())
 
     def expired(self, name):
+        if name == 'request':
+            self.sender.resets.retry()
         if name != 'data':
             self.due.add(name)
             return
@@ -749,10 +756,12 @@ class Endpoint:
                 self.response(*struct.unpack('>II', value[:8]))
 
     def response(self, number, result):
-        """RFC 6525 section 5.2.7: the timer of a request that is in progress begins anew where it runs, and its expiry counts
-        (section 5.1.1); that of one that is answered is as it was at first."""
+        """RFC 6525 section 5.2.7: the timer of a request that waits on begins anew where it runs, with its first wait, and no
+        expiry counts any more; that of one that is answered is as it was at first."""
+        timer = self.timers['request']
         if self.sender.resets.on_response(number, result):
-            self.timers['request'].begin_anew(self.now)
+            timer.count, timer.wait = 0, self.request_wait()
+            timer.begin_anew(self.now)
         if self.sender.resets.pending is None:
             self.due.discard('request')
             self.timers['request'] = Timer(OTHER_REPEATS)

@@ -6,50 +6,12 @@
 
 import struct
 
-import model
+import progress_cases
 import wire
-from case_of_end import OWN_TAG, OWN_TSN, PEER_TAG, PEER_TSN, Case
+from case_of_end import OWN_TAG, OWN_TSN, PEER_TAG, PEER_TSN
 from counts_cases import KEY
+from reset_case import ANSWERED, Resetting
 from wire import chunk, item, reconfig_chunk, reset_request, reset_response
-
-ANSWERED = OWN_TSN - 1          # what a request of the peer says of this end's requests while there is none
-
-
-class Resetting(Case):
-    """A caller with three streams each way, whose peer lists RE-CONFIG."""
-
-    streams, peer_resets = 3, True
-
-    def __init__(self, name, options='reset', **more):
-        super().__init__(name, options, **{'mode': 'data', **more})
-
-    # ---- The peer ----
-
-    def reconfig(self, remark, *parameters):
-        return self.comes('RE-CONFIG: ' + remark, reconfig_chunk(parameters))
-
-    def asks(self, number, last, *streams):
-        said = ' '.join(map(str, streams)) or 'all'
-        return self.reconfig('request %d last %d streams %s' % (number, last, said), reset_request(number, ANSWERED, last, streams))
-
-    def responds(self, number, code):
-        return self.reconfig('response %d: %d' % (number, code), reset_response(number, code))
-
-    def message(self, tsn, number, stream=0, byte=b'a'):
-        return self.comes('DATA %d on stream %d' % (tsn, stream), wire.data_chunk(False, 3, tsn, stream, number, 0, byte))
-
-    # ---- The user ----
-
-    def resets(self, *streams):
-        for stream in streams:
-            self.line('reset %d' % stream)
-        return self
-
-    def tells(self):
-        return self.line('resets')
-
-    def look(self):
-        return self.line('next').line('state')
 
 
 def own():
@@ -68,17 +30,6 @@ def own():
         moment, wait = moment + wait, min(2 * wait, 60_000)
         made.at(moment).build().line('next')
     yield made.look()
-    made = Resetting('a peer whose response is always that a request is in progress: ten repeats, each with the next number, and it is over').resets(2).build()
-    moment, wait = 100, 1000
-    for turn in range(11):
-        made.at(moment + 600).responds(1000 + turn, 6).line('next')
-        moment, wait = moment + 600 + wait, min(2 * wait, 60_000)
-        made.at(moment - 1).build().at(moment).build().line('next')
-    yield made.look().responds(1010, 1).look()
-    made = Resetting('a request in progress: its timer starts again, with the same wait, and it goes once that expires').resets(2).build()
-    yield made.at(3000).line('next').build().line('next').at(3500).responds(1000, 6).line('next').build().at(5499).build().at(5500).build().line('next')
-    made = Resetting('a request that is due, and is in progress, goes at once with the next number').resets(2).build().at(1100).line('next')
-    yield made.responds(1000, 6).line('next').build().line('next')
     made = Resetting('a request that is due, and is answered, goes no more').resets(2).build().at(1100).responds(1000, 1).build().look()
     yield made.line('send 2 o 0 - 61').resets(2).build()
     made = Resetting('the request waits for all of its stream: what is queued, sent, or missing', limit=576)
@@ -263,7 +214,7 @@ def states():
 
 
 def main():
-    for cases in (own, of_peer, mixed, cut, opening, states):
+    for cases in (own, progress_cases.own, progress_cases.waits, of_peer, progress_cases.of_peer, mixed, cut, opening, states):
         for made in cases():
             print(made.text())
 

@@ -7,113 +7,9 @@ crates/sctp_rows; `reset_cases.py` has those of one end.
 
 import sys
 
-import wire
-from model import LineFault, Script
-from wire import pad
-
-ROWS = []
-PAIR, BOTH, OPEN = 'pair 1500 1400 65536 %d %s', 'options both reset', ('open', 'ok')
-
-
-class Row:
-    """A script, with the outcome that is known of each line, and the chunks of the packets that it looks at."""
-
-    def __init__(self, name, streams=1, mode='data', options=(BOTH,), pair=None, opens=True):
-        self.name, self.steps, self.chunks = name, [], {}
-        self.sent = {'A': 0, 'B': 0}
-        ROWS.append(self)
-        for line in (pair or PAIR % (streams, mode), *options):
-            self.steps.append((line, None))
-        if opens:
-            self.says(*OPEN)
-
-    def says(self, line, *outcomes):
-        """This line, and its outcome; of a `build` what the packet has behind the header, and of some the bytes."""
-        self.steps.append((line, outcomes[0] if outcomes else None))
-        return self
-
-    def build(self, x, length=None, chunks=None):
-        """A packet of this length with these chunks; `quiet` without a length."""
-        if length is None:
-            return self.says('build ' + x, 'quiet ' + x)
-        self.sent[x] += 1
-        if chunks is not None:
-            self.chunks[x, self.sent[x]] = chunks
-        return self.says('build ' + x, 'sent %s %d %d' % (x, self.sent[x], length))
-
-    def comes(self, x, n=None):
-        """Packet n of x's bag, or its last one, is taken."""
-        return self.says('deliver %s %d' % (x, n or self.sent[x]), 'taken ' + {'A': 'B', 'B': 'A'}[x])
-
-    def goes(self, x, length, chunks=None):
-        return self.build(x, length, chunks).comes(x)
-
-    def foreign(self, y, *chunks):
-        """A packet of a stranger that knows the tag."""
-        return self.says('foreign %s %s' % (y, packet(y, *chunks)), 'taken ' + y)
-
-    def send(self, stream=0, byte='61', x='A', kind='o', ticket=None):
-        return self.says('send %s %d %s 0 - %s' % (x, stream, kind, byte), *(['ticket %s %d' % (x, ticket)] if ticket else []))
-
-    def message(self, stream, number, byte, x='B', kind='o'):
-        return self.says('take %s %d' % (x, stream), 'message %s %d %s %s 0 %s' % (x, stream, kind, number, byte))
-
-    def check(self):
-        """What differs, in words."""
-        out, wrong = [], []
-        script = Script(out.append)
-        for line, outcome in self.steps:
-            del out[:]
-            try:
-                script.line(line.encode(), len(line) + 1)
-            except LineFault as fault:
-                out.append('fault %d' % fault.args[0])
-            if outcome is not None and out != [outcome]:
-                wrong.append('%s: %s: %s, not %s' % (self.name, line[:60], out, outcome[:80]))
-        for (x, n), chunks in self.chunks.items():
-            found = script.pair.bags[x][n - 1][12:] if n <= len(script.pair.bags[x]) else b''
-            if found != bytes.fromhex(chunks.replace(' ', '')):
-                wrong.append('%s: packet %s %d is %s' % (self.name, x, n, found.hex()))
-        return wrong
-
-    def case(self):
-        return '\n'.join(['= ' + self.name, '$ sctp-trace run', *(text for line, _ in self.steps for text in shown(line))]) + '\n'
-
-
-def packet(y, *chunks):
-    """The digits of a packet to this end, of two that were opened at once."""
-    tag, ports = {'A': (1, (5001, 5000)), 'B': (2, (5000, 5001))}[y]
-    return wire.packet(*ports, tag, [bytes.fromhex(c.replace(' ', '')) for c in chunks]).hex()
-
-
-def shown(line):
-    """A line as it stands in a case; one with a long message is cut."""
-    front, _, last = line.rpartition(' ')
-    if front.startswith('send ') and len(last) > 64:
-        return ['- %s ' % front, 'x%d %s' % (len(last) // 2, last[:2])]
-    return ['> ' + line]
-
-
-def request(number, answered, last, *streams):
-    """The digits of a RE-CONFIG with this request alone."""
-    size = 16 + 2 * len(streams)
-    return pad(bytes.fromhex('8200%04x' % (4 + size) + parameter(number, answered, last, *streams))).hex()
-
-
-def parameter(number, answered, last, *streams):
-    return '000d%04x%08x%08x%08x' % (16 + 2 * len(streams), number, answered, last) + ''.join('%04x' % s for s in streams)
-
-
-def responses(*told):
-    return '8200%04x' % (4 + 12 * len(told)) + ''.join('0010000c%08x%08x' % one for one in told)
-
-
-def data(tsn, stream, ssn, byte, flags=3):
-    return '00%02x0011%08x%04x%04x00000000%s000000' % (flags, tsn, stream, ssn, byte)
-
-
-def sack(tsn, rwnd, *duplicates):
-    return '0300%04x%08x%08x0000%04x' % (16 + 4 * len(duplicates), tsn, rwnd, len(duplicates)) + ''.join('%08x' % d for d in duplicates)
+import progress_rows
+from model import Script
+from reset_row import BOTH, PAIR, ROWS, Row, data, packet, request, reset_begins, responses, sack
 
 
 # ---- Agreeing ----
@@ -145,12 +41,6 @@ def agreeing():
 
 
 # ---- A stream is reset, and used again ----
-
-def reset_begins(name, **how):
-    """A message on stream 0, acknowledged, and the stream is reset; TSNs begin with 1."""
-    made = Row(name, **how)
-    return made.send(ticket=1).goes('A', 32).goes('B', 28, sack(1, 0xffff)).says('reset A 0', 'ok')
-
 
 def again():
     made = reset_begins('a stream is reset, and used again with SSN 0; its messages count on')
@@ -186,73 +76,6 @@ def again():
     made = reset_begins('two resets of a stream are told as one, behind the messages of both')
     made.goes('A', 36).goes('B', 28).send(byte='62', ticket=2).goes('A', 32).goes('B', 28).says('reset A 0', 'ok').goes('A', 36).goes('B', 28)
     made.send(byte='63', ticket=3).goes('A', 32).says('resets B', 'reset B 0 2').says('resets B', 'no-reset B')
-
-
-# ---- In progress ----
-
-def in_progress():
-    def begins(name):
-        made = Row(name, streams=2).send(ticket=1).goes('A', 32).goes('B', 28).send(1, '62', ticket=2).build('A', 32).says('reset A 0', 'ok')
-        made.build('A', 36, request(1, 0, 2, 0)).comes('A').says('resets B', 'no-reset B').build('B', 28, responses((1, 6)))
-        return made
-    made = begins('a request waits for all up to its last TSN; the same one again is looked at afresh')
-    made.comes('A', 2).comes('A', 3).says('resets B', 'reset B 0 1').build('B', 44, sack(2, 0xfffe) + responses((1, 1))).comes('B')
-    made.send(byte='63', ticket=3)
-    made = begins('a request in progress is repeated with the next number').comes('B').build('A').says('at 1000', 'ok')
-    made.build('A', 56, request(2, 0, 2, 0) + data(2, 1, 0, '62')).comes('A').says('resets B', 'no-reset B')
-    made.build('B', 44, sack(2, 0xfffe) + responses((2, 6))).comes('B').build('A').says('at 2999', 'ok').build('A').says('at 3000', 'ok')
-    made.build('A', 36, request(3, 0, 2, 0)).comes('A').says('resets B', 'reset B 0 1').build('B', 28, responses((3, 1))).comes('B').send(byte='63', ticket=3)
-    made = begins('the response to a number that was in progress comes again: it is the last one\'s no more').comes('B')
-    made.foreign('A', responses((1, 1))).says('send A 0 o 0 - 63', 'refused 8').foreign('A', responses((2, 1))).send(byte='63', ticket=3)
-    made = Row('the request names the last TSN assigned: a FORWARD built before is read under the old numbers', streams=2, mode='data-pr')
-    for byte, stream in (('61', 0), ('62', 0), ('63', 1)):
-        made.send(stream, byte).build('A', 32)
-    made.comes('A', 1).goes('B', 28, sack(1, 0xffff)).says('abandon A 2', 'fate A 2').says('abandon A 3', 'fate A 2')
-    made.build('A', 28, 'c0000010 00000003 0000 0001 0001 0000').comes('A', 2).goes('B', 28, sack(2, 0xfffe)).build('A', 24, 'c000000c 00000003 0001 0000')
-    made.says('reset A 0', 'ok').build('A', 36, request(1, 0, 3, 0)).comes('A').goes('B', 28, responses((1, 6))).comes('A', 4)
-    made.says('send A 0 o 0 - 64', 'refused 8').goes('B', 28, sack(3, 0xfffe)).says('at 1000', 'ok').build('A', 36, request(2, 0, 3, 0)).comes('A')
-    made.says('resets B', 'reset B 0 2').goes('B', 28, responses((2, 1))).send(byte='64', ticket=4).goes('A', 32, data(4, 0, 0, '64'))
-    made.message(0, 0, '61').message(0, 1, '62').message(0, 2, '64')
-    made = Row('a FORWARD that is late by a reset skips nothing', streams=2, mode='data-pr')
-    made.send(ticket=1).send(byte='62', ticket=2)
-    made.build('A', 52).send(1, '63', ticket=3).build('A', 32)                  # packets 1 (TSNs 1 and 2) and 2 (TSN 3)
-    made.foreign('A', sack(1, 0xffff)).says('abandon A 2', 'fate A 2').says('abandon A 3', 'fate A 2')
-    made.build('A', 28, 'c0000010 00000003 0000 0001 0001 0000')                # packet 3: FORWARD to 3, kept back
-    made.foreign('A', sack(2, 0xfffe)).build('A', 24, 'c000000c 00000003 0001 0000').says('reset A 0', 'ok')
-    made.build('A', 36, request(1, 0, 3, 0)).comes('A', 5).says('resets B', 'no-reset B').build('B', 28, responses((1, 6)))
-    made.comes('A', 3).comes('A', 5).says('resets B', 'reset B 0 0').build('B', 44, sack(3, 0x10000) + responses((1, 1))).comes('B')
-    made.send(byte='64', ticket=4).send(byte='65', ticket=5).build('A', 52, data(4, 0, 0, '64') + data(5, 0, 1, '65')).comes('A', 6).comes('A', 3)
-    made.message(0, 2, '64').message(0, 3, '65')
-
-
-# ---- The timer ----
-
-def timer():
-    made = reset_begins('a request that isn\'t answered is repeated ten times, and then the association is over').build('A', 36)
-    moment, wait = 0, 1000
-    for _ in range(10):
-        moment, wait = moment + wait, min(2 * wait, 60000)
-        made.says('at %d' % (moment - 1), 'ok').build('A').says('at %d' % moment, 'ok').build('A', 36, request(1, 0, 1, 0))
-    made.says('at %d' % (moment + wait - 1), 'ok').build('A').says('at %d' % (moment + wait), 'ok').build('A').says('reset A 0', 'refused 1').says('send A 0 o 0 - 61', 'refused 7')
-    made = reset_begins('a peer whose response is in progress for ever: each starts the timer again, and after ten repeats the association is over').build('A', 36)
-    moment, wait = 0, 1000
-    for number in range(1, 11):
-        made.says('at %d' % (moment + 500), 'ok').foreign('A', responses((number, 6)))
-        moment, wait = moment + 500 + wait, min(2 * wait, 60000)
-        made.says('at %d' % (moment - 1), 'ok').build('A')
-        made.says('at %d' % moment, 'ok').build('A', 36, request(number + 1, 0, 1, 0))
-    made.says('at %d' % (moment + 500), 'ok').foreign('A', responses((11, 6))).says('at %d' % (moment + 500 + wait - 1), 'ok').build('A')
-    made.says('at %d' % (moment + 500 + wait), 'ok').build('A').says('reset A 0', 'refused 1').says('send A 0 o 0 - 61', 'refused 7')
-    made = reset_begins('in progress once, and then silence: ten repeats, and the association is over').build('A', 36).says('at 600', 'ok')
-    made.foreign('A', responses((1, 6)))
-    moment, wait = 600, 1000
-    for _ in range(10):
-        moment, wait = moment + wait, min(2 * wait, 60000)
-        made.says('at %d' % moment, 'ok').build('A', 36, request(2, 0, 1, 0))
-    made.says('at %d' % (moment + wait), 'ok').says('reset A 0', 'refused 1').says('send A 0 o 0 - 61', 'refused 7')
-    made = reset_begins('the timer of a request that was answered begins with the next request anew').build('A', 36).says('at 1000', 'ok').build('A', 36)
-    made.says('at 3000', 'ok').build('A', 36).foreign('A', responses((1, 1))).says('reset A 0', 'ok').build('A', 36, request(2, 0, 1, 0))
-    made.says('at 3999', 'ok').build('A').says('at 4000', 'ok').build('A', 36, request(2, 0, 1, 0))
 
 
 # ---- Closing, and the states ----
@@ -340,7 +163,7 @@ def last_numbers():
 
 
 def main():
-    for make in (agreeing, again, in_progress, timer, states, many):
+    for make in (agreeing, again, *progress_rows.MAKERS, states, many):
         make()
     if sys.argv[1:] == ['--rows']:
         for one in ROWS:

@@ -7,8 +7,11 @@ from wire import (ADD_INCOMING, ADD_OUTGOING, HEADER, INCOMING_RESET, OUTGOING_R
 RESETS, REFUSES = 1, 2
 # A request names streams below the first number, and at most the second: so it fits each packet.
 STREAM_LIMIT, RESETS_AT_ONCE = 1_024, 256
-# Results of a request (section 4.4); Already in Progress, 4, doesn't come here.
-NOTHING_TO_DO, PERFORMED, DENIED, WRONG_STREAM, BAD_NUMBER, IN_PROGRESS = 0, 1, 2, 3, 5, 6
+# Results of a request (section 4.4): another request is in progress (4), or this one (6).
+NOTHING_TO_DO, PERFORMED, DENIED, WRONG_STREAM, ANOTHER_IN_PROGRESS, BAD_NUMBER, IN_PROGRESS = range(7)
+# Which sequence number a request has: that of its first sending; one under which it is in progress, and which its timer
+# replaces by the next one; one after such a number (section 5.2.7).
+FIRST_NUMBER, NEXT_NUMBER, LATER_NUMBER = range(3)
 # Requests that are always denied, and the least bytes that their values have (sections 4.2, 4.3, 4.5 and 4.6).
 OTHER_REQUESTS = {INCOMING_RESET: 4, TSN_RESET: 4, ADD_OUTGOING: 8, ADD_INCOMING: 8}
 
@@ -19,10 +22,11 @@ def responses(answers):
 
 
 class Pending:
-    """The request that waits for its response: the last index assigned as it was made, and its streams."""
+    """The request that waits for its response: the number of its first sending, the last index assigned as it was made, its streams,
+    and which number it has."""
 
-    def __init__(self, last, streams):
-        self.last, self.streams = last, streams
+    def __init__(self, first, last, streams):
+        self.first, self.last, self.streams, self.numbering = first, last, streams, FIRST_NUMBER
 
 
 class Outgoing:
@@ -34,6 +38,7 @@ class Outgoing:
         self.sending = {}             # stream: RESETS or REFUSES; the others take messages
         self.made = 0                 # how many sequence numbers of requests were used
         self.pending = None
+        self.last_said = None         # the last TSN and the streams of the last request that was made
 
     # ---- Readers ----
 
@@ -60,6 +65,14 @@ class Outgoing:
     def ready(self):
         """The streams that the next request names: the lowest of which nothing is left to be acknowledged."""
         return [s for s in self.resetting() if self.is_still(s)][:RESETS_AT_ONCE]
+
+    def named(self):
+        """The streams of the next request. It would say the same as the last one, which the peer may have in progress, or may
+        have had: it names its first stream twice, and so isn't taken for that one under another number (section 5.2.7)."""
+        streams = self.ready()
+        if self.last_said == (self.sender.tsn(self.sender.last()), streams):
+            return (streams[:1] + streams)[:RESETS_AT_ONCE]
+        return streams
 
     def has_number(self):
         """A sequence number is left: those that are used lie within half of their space."""
@@ -90,29 +103,39 @@ class Outgoing:
         """A request, if one may be made (section 5.1.2); whether it was."""
         if not self.may_ask():
             return False
-        self.pending = Pending(self.sender.last(), self.ready())
         self.made += 1
+        self.pending = Pending(self.made, self.sender.last(), self.named())
+        self.last_said = self.sender.tsn(self.pending.last), self.pending.streams
         return True
 
+    def retry(self):
+        """Its timer sends the request again: one that is in progress takes the next number, since a request with one that was
+        taken may have the same response (sections 5.2.1 and 5.2.7)."""
+        if self.pending is not None and self.pending.numbering == NEXT_NUMBER and self.has_number():
+            self.made += 1
+            self.pending.numbering = LATER_NUMBER
+
     def on_response(self, number, result):
-        """One to another request changes nothing (section 5.2.7). True where the one that waits is in progress."""
+        """Whether it is to the request that waits: one to another request changes nothing (section 5.2.7)."""
         if self.pending is None or number != self.number():
             return False
-        if result == IN_PROGRESS:
-            self.ask_again()
-            return True
-        for stream in self.pending.streams:
-            if result in (NOTHING_TO_DO, PERFORMED):
+        if result in (NOTHING_TO_DO, PERFORMED):
+            for stream in self.pending.streams:
                 self.begin_anew(stream)
-            else:
-                self.sending[stream] = REFUSES
-        self.pending = None
-        return False
+            self.pending = None
+        elif result in (IN_PROGRESS, ANOTHER_IN_PROGRESS):
+            self.pending.numbering = NEXT_NUMBER
+        elif result == BAD_NUMBER and self.pending.numbering == LATER_NUMBER:
+            self.go_back()
+        else:
+            self.sending.update((stream, REFUSES) for stream in self.pending.streams)
+            self.pending = None
+        return True
 
-    def ask_again(self):
-        """With the next number: a request with one that was taken may have the same response (sections 5.2.1 and 5.2.7)."""
-        if self.has_number():
-            self.made += 1
+    def go_back(self):
+        """The number before was in progress, and this one isn't the next: the peer didn't count that one, and expects it, or one before it."""
+        self.made -= 1
+        self.pending.numbering = FIRST_NUMBER if self.made == self.pending.first else LATER_NUMBER
 
     def begin_anew(self, stream):
         """The next number of the stream's messages, of either kind, is 0 on the wire."""
@@ -129,6 +152,7 @@ class Incoming:
         self.base = {}                # (stream, unordered): the number that is 0 on the wire
         self.taken = 0                # how many requests were taken
         self.result = BAD_NUMBER      # of the last one: the number before the first is no request's
+        self.waited = None            # of the last one, if it was in progress: last TSN, streams, whether it was performed since
         self.answers = []             # (number, result): responses that wait for a packet
         self.told = {}                # stream: how many messages were handed over until its reset, while that isn't reported
 
@@ -177,25 +201,36 @@ class Incoming:
         if kind == OUTGOING_RESET and len(value) >= 12:
             self.on_request(ResetRequest(value), limit)
         elif kind in OTHER_REQUESTS and len(value) >= OTHER_REQUESTS[kind]:
-            self.respond(int.from_bytes(value[:4], 'big'), DENIED, limit)
+            self.respond(int.from_bytes(value[:4], 'big'), None, DENIED, limit)
 
     def on_request(self, request, limit):
         """An Outgoing SSN Reset Request (section 5.2.2)."""
         result = self.result_in_turn(request)
         if result == PERFORMED and self.is_in_turn(request.number):
+            is_new = not self.was_performed((request.last, request.streams))
             for stream in request.streams or range(self.receiver.streams):
                 self.begin_anew(stream)
-        self.respond(request.number, result, limit)
+                if is_new:
+                    self.told[stream] = len(self.handed_on(stream))
+        self.respond(request.number, (request.last, request.streams), result, limit)
+
+    def was_performed(self, said):
+        """It was in progress under one number, performed under it, and comes under the next one, since its sender didn't know
+        that yet (section 5.2.7): the user isn't told again."""
+        return self.waited is not None and self.waited == (said, True)
 
     def begin_anew(self, stream):
         """The next number of the stream, of either kind, is 0 on the wire."""
         self.base[stream, False] = self.receiver.next[stream]
         self.base[stream, True] = self.next_unordered(stream)
-        self.told[stream] = len(self.handed_on(stream))
 
-    def respond(self, number, result, limit):
+    def respond(self, number, said, result, limit):
         """With this result, if the request is in its turn; the last one has the same as before (section 5.2.1)."""
         if self.is_in_turn(number):
+            if result == IN_PROGRESS:
+                self.waited = said, self.was_performed(said)
+            else:
+                self.waited = None if self.is_next(number) else (said, result == PERFORMED)
             self.taken, self.result = self.taken + self.is_next(number), result
         self.add_answer(number, self.result if number == self.last_request() else BAD_NUMBER, limit)
 

@@ -5,7 +5,7 @@ import collections, os, re, signal, subprocess, sys, tempfile
 from pathlib import Path
 
 ROOT = Path(__file__).resolve().parent.parent.parent
-STARVED = ["wire", "packet", "send", "send-i", "burst", "burst-i", "receive", "receive-i", "three", "ends", "bundles", "closing", "skipped", "end-mark", "full"]
+STARVED = ["wire", "packet", "send", "send-i", "burst", "burst-i", "receive", "receive-i", "resets", "resets-i", "three", "ends", "bundles", "closing", "skipped", "end-mark", "full"]
 KINDS = {"REFUSE": 0, "FAIL": 1, "SHORT": 2}  # what the shim is told, and the place of its number in what it tells
 START = 3  # the place of the number of growths before the first read or write
 BY_CARGO = os.environ.get("CARGO_PROGRAMS")

@@ -11,8 +11,8 @@ use Rattle.sctp_model.specs.sender.Resetting.{is_still_on, ready, has_stream, ma
 use Rattle.sctp_send.specs.ResetAnswers.{resetting_streams}
 use Rattle.sctp_model.specs.receiver.ReceiverView.{ReceiverView, fresh_receiver}
 use Rattle.sctp_model.specs.receiver.ResetTaken.{with_answers}
-use Rattle.sctp_model.specs.end.EndView.{EndView, Phase, Idle, Listening, Calling, Echoing, Open, Over, ResetAlarm, has_association}
-use Rattle.sctp_model.specs.end.Clock.{is_home}
+use Rattle.sctp_model.specs.end.EndView.{EndView, Phase, Idle, Listening, Calling, Echoing, Open, Over, has_association, Timer, unused_timer, Alarm, InitAlarm, CookieAlarm, DataAlarm, ShutdownAlarm, AckAlarm, ResetAlarm}
+use Rattle.sctp_model.specs.end.Clock.{is_home, replaced}
 use Rattle.sctp_model.specs.end.Building.{Puts, open_slots, Builds, Sleeps, Waits, Calls, Echoes, EndsFull, Fills, filled_behind, fragments}
 use Rattle.sctp_model.specs.end.Reconfiguring.{asking_now, asking}
 use Rattle.sctp_model.specs.end.Wearing.{missed_below}
@@ -150,9 +150,33 @@ may_then e on = (and_parts (is_home ResetAlarm e.phase) (may_ask e.sender) (and_
 pub never_asks : (s : SenderView) (f : ℕ) → s ≡ fresh_sender 0 0 f 0 false → (if may_ask s then asked s else s) ≡ s
 never_asks s f is = ap (λ (x : SenderView). if may_ask x then asked x else s) is
 
+pub never_may : (s : SenderView) (f : ℕ) → s ≡ fresh_sender 0 0 f 0 false → may_ask s ≡ false
+never_may s f is = ap (λ (x : SenderView). may_ask x) is
+
 -- and none of its requests waits
 pub unasked_fresh : (s : SenderView) (f : ℕ) → asked s ≡ fresh_sender 0 0 f 0 false → ⊥
 unasked_fresh s f is = false≢true (sym (ap (λ (x : SenderView). is_some x.resets.pending) is))
+
+-- ---- the timer of a request
+
+-- that of a new one is put in its place
+pub put_new : (n f g : Alarm → Timer) (t : Timer) (w u : ℕ) → n ≡ replaced ResetAlarm t f → t ≡ record unused_timer { wait = w } → w ≡ u → f ≡ g
+    → n ≡ replaced ResetAlarm (record unused_timer { wait = u }) g
+put_new n f g t w u is made waits same =
+    is ∙ ap (λ (x : Timer). replaced ResetAlarm x f) (made ∙ ap (λ (j : ℕ). record unused_timer { wait = j }) waits)
+    ∙ ap (λ (h : Alarm → Timer). replaced ResetAlarm (record unused_timer { wait = u }) h) same
+
+-- the one that was there before is put back
+again_at : (t x : Timer) (g : Alarm → Timer) → t ≡ g ResetAlarm → (a : Alarm) → replaced ResetAlarm t (replaced ResetAlarm x g) a ≡ g a
+again_at t x g at InitAlarm = refl
+again_at t x g at CookieAlarm = refl
+again_at t x g at DataAlarm = refl
+again_at t x g at ShutdownAlarm = refl
+again_at t x g at AckAlarm = refl
+again_at t x g at ResetAlarm = at
+
+pub put_again : (n f g : Alarm → Timer) (t x : Timer) → n ≡ replaced ResetAlarm t f → f ≡ replaced ResetAlarm x g → t ≡ g ResetAlarm → n ≡ g
+put_again n f g t x is was at = is ∙ ap (λ (h : Alarm → Timer). replaced ResetAlarm t h) was ∙ (λ i a. again_at t x g at a i)
 
 -- ---- the end around its sender
 

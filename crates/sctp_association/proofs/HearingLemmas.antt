@@ -116,11 +116,13 @@ renewed_in a n f g t x m k b is made at same clock =
     is ∙ ap (λ (z : Timer). replaced a z f) (made ∙ ap (λ (z : Timer). renewed m b z) at ∙ ap (λ (j : ℕ). renewed j b (f a)) clock)
     ∙ ap (λ (h : Alarm → Timer). replaced a (renewed k b (h a)) h) same
 
-pub restarted_in : (a : Alarm) (n f g : Alarm → Timer) (t x : Timer) (m k : ℕ) → n ≡ replaced a t f → t ≡ restarted m x → x ≡ f a → f ≡ g → m ≡ k
-    → n ≡ replaced a (restarted k (g a)) g
-restarted_in a n f g t x m k is made at same clock =
-    is ∙ ap (λ (z : Timer). replaced a z f) (made ∙ ap (λ (z : Timer). restarted m z) at ∙ ap (λ (j : ℕ). restarted j (f a)) clock)
-    ∙ ap (λ (h : Alarm → Timer). replaced a (restarted k (h a)) h) same
+pub restarted_in : (a : Alarm) (n f g : Alarm → Timer) (t x : Timer) (m k w u : ℕ) → n ≡ replaced a t f → t ≡ restarted m w x → x ≡ f a → f ≡ g → m ≡ k → w ≡ u
+    → n ≡ replaced a (restarted k u (g a)) g
+restarted_in a n f g t x m k w u is made at same clock waits =
+    is
+    ∙ ap (λ (z : Timer). replaced a z f)
+    (made ∙ ap (λ (z : Timer). restarted m w z) at ∙ ap (λ (j : ℕ). restarted j w (f a)) clock ∙ ap (λ (j : ℕ). restarted k j (f a)) waits)
+    ∙ ap (λ (h : Alarm → Timer). replaced a (restarted k u (h a)) h) same
 
 -- the data timer in its own place
 own_at : (f : Alarm → Timer) (a : Alarm) → replaced DataAlarm (f DataAlarm) f a ≡ f a

@@ -4,10 +4,10 @@ use Rattle.std.proofs.lemmas.Bool.{false≢true}
 use Rattle.std.specs.Prelude.{◌&&◌, if◌then◌else◌, is_some, unwrap_or, Option, None, Some, Result, Ok, Err, OnOk, MatchOption}
 use Rattle.std.specs.List.{list_any}
 use Rattle.sctp_model.specs.wire.Typed.{typed_in}
-use Rattle.sctp_model.specs.wire.Reconfig.{ResetResult, Performed, Denied, WrongStream, BadNumber, InProgress, is_progress_code}
+use Rattle.sctp_model.specs.wire.Reconfig.{ResetMeaning, ResetResult, Performed, Denied, WrongStream, BadNumber, InProgress}
 use Rattle.sctp_model.specs.sender.Resetting.{is_open_number, response_taken}
 use Rattle.sctp_model.specs.receiver.ReceiverView.{ReceiverView, IsCumulative}
-use Rattle.sctp_model.specs.receiver.ResetTaken.{names, reset_answer, is_in_turn, with_answer, renumbered_by}
+use Rattle.sctp_model.specs.receiver.ResetTaken.{names, names_anew, reset_answer, is_in_turn, other_meaning, with_answer, renumbered_by}
 use Rattle.sctp_model.specs.end.EndView.{EndView, Configuration, ResetAlarm, unused_timer, format_for}
 use Rattle.sctp_model.specs.end.Clock.{with_timer}
 use Rattle.sctp_model.specs.end.Closing.{with_due}
@@ -45,7 +45,7 @@ asking_beside e r = rests_beside (is_some e.sender.resets.pending) e r
 response_beside : (e : EndView) (r : ReceiverView) (n k : ℕ) → response_heard (record e { receiver = r }) n k ≡ record (response_heard e n k) { receiver = r }
 response_beside e r n k =
     let u : EndView = record e { sender = response_taken e.sender n k } in
-    let b = is_open_number e.sender n && is_progress_code k in
+    let b = is_open_number e.sender n in
     ap asking_on (progress_beside b u r) ∙ asking_beside (in_progress b u) r
 
 -- ---- it leaves the receiver and the configuration
@@ -69,13 +69,13 @@ rests_configuration false e = refl
 response_receiver : (e : EndView) (n k : ℕ) → (response_heard e n k).receiver ≡ e.receiver
 response_receiver e n k =
     let u : EndView = record e { sender = response_taken e.sender n k } in
-    let b = is_open_number e.sender n && is_progress_code k in
+    let b = is_open_number e.sender n in
     rests_receiver (is_some (in_progress b u).sender.resets.pending) (in_progress b u) ∙ progress_receiver b u
 
 response_configuration : (e : EndView) (n k : ℕ) → (response_heard e n k).configuration ≡ e.configuration
 response_configuration e n k =
     let u : EndView = record e { sender = response_taken e.sender n k } in
-    let b = is_open_number e.sender n && is_progress_code k in
+    let b = is_open_number e.sender n in
     rests_configuration (is_some (in_progress b u).sender.resets.pending) (in_progress b u) ∙ progress_configuration b u
 
 -- requests that come behind it may as well come before it
@@ -115,20 +115,20 @@ asked_on v b is = ap (λ (x : Bool). if x then v else rests v) is
 
 -- ---- requests: the receive buffer stays
 
-noted_buffer : (a : ResetResult) (r : ReceiverView) (number : ℕ) (named : ℕ → Bool) → (with_answer (renumbered_by r named a) number a).buffer ≡ r.buffer
-noted_buffer Performed r number named = refl
-noted_buffer Denied r number named = refl
-noted_buffer WrongStream r number named = refl
-noted_buffer BadNumber r number named = refl
-noted_buffer InProgress r number named = refl
+noted_buffer : (a : ResetResult) (r : ReceiverView) (m : ResetMeaning) (named anew : ℕ → Bool) → (with_answer (renumbered_by r named anew a) m a).buffer ≡ r.buffer
+noted_buffer Performed r m named anew = refl
+noted_buffer Denied r m named anew = refl
+noted_buffer WrongStream r m named anew = refl
+noted_buffer BadNumber r m named anew = refl
+noted_buffer InProgress r m named anew = refl
 
-taken_buffer : (b : Bool) (r : ReceiverView) (number : ℕ) (named : ℕ → Bool) (a : ResetResult) → (if b then with_answer (renumbered_by r named a) number a else r).buffer ≡ r.buffer
-taken_buffer true r number named a = noted_buffer a r number named
-taken_buffer false r number named a = refl
+taken_buffer : (b : Bool) (r : ReceiverView) (m : ResetMeaning) (named anew : ℕ → Bool) (a : ResetResult) → (if b then with_answer (renumbered_by r named anew a) m a else r).buffer ≡ r.buffer
+taken_buffer true r m named anew a = noted_buffer a r m named anew
+taken_buffer false r m named anew a = refl
 
 requested_buffer : (limit c : ℕ) (r : ReceiverView) (p : ParameterMeaning) → (requested limit c r p).buffer ≡ r.buffer
-requested_buffer limit c r (ResetRequested m) = taken_buffer (is_in_turn r m.number) r m.number (names r m.streams) (reset_answer r c m)
-requested_buffer limit c r (OtherRequested n) = taken_buffer (is_in_turn r n) r n (λ s. false) Denied
+requested_buffer limit c r (ResetRequested m) = taken_buffer (is_in_turn r m.number) r m (names r m.streams) (names_anew r m) (reset_answer r c m)
+requested_buffer limit c r (OtherRequested n) = taken_buffer (is_in_turn r n) r (other_meaning n) (λ s. false) (λ s. false) Denied
 requested_buffer limit c r (Responded n k) = refl
 requested_buffer limit c r Ignored = refl
 

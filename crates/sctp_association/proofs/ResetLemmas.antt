@@ -7,7 +7,7 @@ use Rattle.sctp_model.specs.numbers.Serial.{tsn}
 use Rattle.sctp_model.specs.wire.Reconfig.{ResetMeaning}
 use Rattle.sctp_model.specs.messages.Format.{Format}
 use Rattle.sctp_model.specs.sender.Outgoing.{is_resetting, Request}
-use Rattle.sctp_model.specs.sender.Resetting.{resetting, response_taken, is_open_number}
+use Rattle.sctp_model.specs.sender.Resetting.{resetting, retried, response_taken, is_open_number}
 use Rattle.sctp_model.specs.sender.SenderView.{SenderView, fresh_sender}
 use Rattle.sctp_model.specs.receiver.ReceiverView.{ReceiverView, fresh_receiver}
 use Rattle.sctp_model.specs.receiver.ResetTaken.{old_waiting, told_of}
@@ -48,6 +48,9 @@ none_resetting s f is = sym (ap resetting_streams is)
 
 pub responded_fresh : (s : SenderView) (f n k : ℕ) → s ≡ fresh_sender 0 0 f 0 false → response_taken s n k ≡ s
 responded_fresh s f n k is = ap (λ (x : SenderView). response_taken x n k) is ∙ sym is
+
+pub retried_fresh : (s : SenderView) (f : ℕ) → s ≡ fresh_sender 0 0 f 0 false → retried s ≡ s
+retried_fresh s f is = ap (λ (x : SenderView). retried x) is ∙ sym is
 
 pub unasked_fresh : (s : SenderView) (f n : ℕ) → s ≡ fresh_sender 0 0 f 0 false → false ≡ is_open_number s n
 unasked_fresh s f n is = sym (ap (λ (x : SenderView). is_open_number x n) is)

@@ -79,12 +79,11 @@ impl Machine {
         ensures built { (v : EndView) → MachineStands self.old v → IfOk result (λ built. BuildAnswer (record v { moment = moment }) built self.new) }
         ensures memory { (v : EndView) → MachineStands self.old v → OnErr result (MachineStands self.new v) }
     {
-        let was_due = self.due.request;
         let asked = self.ask()?;
         match self.build_asked(moment) {
             Ok(built) => Ok(built),
             Err(failed) => {
-                self.take_back(asked, was_due);
+                self.take_back(asked);
                 Err(failed)
             }
         }

@@ -28,6 +28,8 @@ pub enum ResetCall<'a> {
     Request,
     /// A response arrives.
     Response { number: u32, code: u32 },
+    /// The timer of the request expires.
+    Retry,
     /// The value of a RE-CONFIG arrives; its responses are for packets of a limit.
     Reconfig { bytes: &'a str, limit: u16 },
     /// The responses that wait for a packet.
@@ -64,6 +66,7 @@ pub fn read_reset_call<'a>(name: &str, words: &mut Words<'a>) -> Option<ResetCal
             number: words.number()?,
             code: words.number()?,
         },
+        "retry" => ResetCall::Retry,
         "reconfig" => ResetCall::Reconfig {
             bytes: words.next()?,
             limit: if words.are_read() {
@@ -149,6 +152,10 @@ fn make_at_sender<F: Framing>(
         ResetCall::Request => show_request(sender, out)?,
         ResetCall::Response { number, code } => {
             sender.on_response(number, code);
+            show_request(sender, out)?;
+        }
+        ResetCall::Retry => {
+            sender.retry_request();
             show_request(sender, out)?;
         }
         _ => {}

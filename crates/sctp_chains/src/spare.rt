@@ -130,6 +130,18 @@ impl Spare {
             return let_go(parts);
         }
         self.bytes = bytes;
+        if !matches!(&parts, Fragments::One(_)) {
+            return self.keep_turned(parts);
+        }
+        self.messages.push_reserved(parts);
+    }
+
+    /// Keeps the blocks of a message of several fragments. A function of its own, so that one of a single fragment isn't taken apart.
+    #[inline(never)]
+    fn keep_turned(&mut self, parts: Fragments) {
+        if self.messages.len() >= self.messages.capacity() {
+            return let_go(parts);
+        }
         match parts {
             Fragments::One(one) => self.messages.push_reserved(Fragments::One(one)),
             Fragments::Many(blocks) => self.messages.push_reserved(in_turn(blocks)),
@@ -157,7 +169,7 @@ impl Spare {
                 block
             }
         };
-        self.bytes = self.bytes.saturating_sub(block.capacity());
+        self.bytes = self.bytes.wrapping_sub(block.capacity());
         Some(block)
     }
 }
@@ -179,9 +191,10 @@ fn refill(block: &mut Vec<u8>, bytes: &[u8]) -> Result<(), NoMemory>
     block.extend_from_slice(bytes).map_err(|_| NoMemory)
 }
 
-/// Whether `bytes` bytes fit a block with a capacity of `room`, and fill at least half of it.
+/// Whether `bytes` bytes fit a block with a capacity of `room`, and fill at least half of it: what they leave is no more. If they don't fit, what they
+/// leave, modulo 2^64, is more.
 fn suits(room: usize, bytes: usize) -> bool {
-    bytes <= room && room / 2 <= bytes
+    room.wrapping_sub(bytes) <= bytes
 }
 
 /// The bytes of a message's blocks, 2^64 - 1 if there are more.

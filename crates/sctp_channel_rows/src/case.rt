@@ -138,10 +138,19 @@ fn call_side(
             numbered(out, "fate", u64::from(fate.code()))
         }
         "state" => show_state(side, out),
+        "tag" => show_tag(side, out),
         _ => match side {
             Side::Channels(channels) => channel_call(alloc, now, channels, name, words, out),
             Side::Bare(endpoint) => bare_call(alloc, endpoint, name, words, out),
         },
+    }
+}
+
+/// The verification tag that packets to a side carry.
+fn show_tag(side: &Side, out: &mut String) -> Result<()> {
+    match side.endpoint().own_tag() {
+        Some(tag) => numbered(out, "tag", u64::from(tag)),
+        None => say(out, "none"),
     }
 }
 

@@ -10,14 +10,14 @@ use Rattle.sctp_dcep.specs.Dcep.{control_of}
 use Rattle.sctp_channels.specs.declared.channels.Channels.{Channels}
 use Rattle.sctp_channels.specs.declared.event.Event.{Event}
 use Rattle.sctp_channels.specs.declared.stream.State.{State}
-use Rattle.sctp_channels.specs.declared.stream.State.TheVariants.{Unused, Connecting, Unanswered, Open, Closing, Refused}
+use Rattle.sctp_channels.specs.declared.stream.State.TheVariants.{Unused, Connecting, Unanswered, Open, Closing, Refused, Silent}
 use Rattle.sctp_channels.specs.declared.stream.Stream.{Stream}
 use Rattle.sctp_channels.specs.declared.table.DtlsRole.{DtlsRole}
-use Rattle.sctp_channels.specs.Streams.{unused, Table, stream_at, with_stream}
+use Rattle.sctp_channels.specs.Streams.{is_reset, unused, Table, stream_at, with_stream}
 use Rattle.sctp_channels.specs.Told.{Message}
 use Rattle.sctp_channels.specs.Coming.{tells, content_comes, OfDcep, OfChannel, comes_saying, comes, leaving, one_taken}
 use Rattle.sctp_channels.specs.Calling.{outgoing}
-use Rattle.sctp_channels.specs.Events.{Reported, reports_taken, reports_message}
+use Rattle.sctp_channels.specs.Events.{Reported, reports_taken, reports_message, with_freed}
 use Rattle.sctp_channels.specs.Telling.{Tells}
 use Rattle.sctp_channels.specs.inner.SaidMeans.{content_told}
 use Rattle.sctp_channels.proofs.HearingLemmas.{reported}
@@ -32,6 +32,7 @@ by_state Unanswered p bytes k x is = (sym is, refl)
 by_state Open p bytes k x is = (sym is, refl)
 by_state Closing p bytes k x is = (sym is, refl)
 by_state Refused p bytes k x is = absurd (cc)
+by_state Silent p bytes k x is = absurd (cc)
 
 -- a message of DCEP is none
 not_dcep : (p : ℕ) (bytes : List ℕ) (k : Content) → content_of p bytes ≡ Some k → (p == DCEP) ≡ false
@@ -55,14 +56,14 @@ told_at_once role n s h x k is =
 -- ---- and this is told of it
 
 pub told_content : (v : EndView) (x : Table) (s : ℕ) (h : Handed) (rest : List Handed) (y : Stream) (k : Content) (e : Event) (c : Channels) → v.receiver.waiting s ≡ h ∷ rest → y ≡ stream_at x s
-    → Some k ≡ content_told y.state h.payload h.bytes → Tells (reports_taken s h rest (tells (Message k) y) v x) (Some e) c → Tells (reports_message s (v.receiver.waiting s) v x) (Some e) c
+    → Some k ≡ content_told y.state h.payload h.bytes → Tells (reports_taken s h rest (tells (Message k) y) v x) (Some e) c → Tells (with_freed (reports_message s (v.receiver.waiting s) v x)) (Some e) c
 told_content v x s h rest y k e c waits kept is told =
     let came = told_at_once x.role (outgoing v x) s h y k is ∙ ap (λ (z : Stream). comes x.role (outgoing v x) s h z) kept in
-    subst (λ (r : Reported). Tells r (Some e) c) (sym (reported v x s h rest (tells (Message k) y) waits came)) told
+    subst (λ (r : Reported). Tells (with_freed r) (Some e) c) (sym (reported v x s h rest (tells (Message k) y) waits came)) told
 
 -- ---- it counts only once the peer has reset the stream
 
-pub uncounted : (x : Table) (s : ℕ) (y : Stream) → y.is_reset ≡ false → y ≡ stream_at x s → x ≡ with_stream x s (one_taken y)
+pub uncounted : (x : Table) (s : ℕ) (y : Stream) → is_reset y.resets ≡ false → y ≡ stream_at x s → x ≡ with_stream x s (one_taken y)
 uncounted x s y off kept =
-    let same : one_taken y ≡ stream_at x s = ap (λ (b : Bool). if b then leaving (y.left - 1) y else y) off ∙ kept in
+    let same : one_taken y ≡ stream_at x s = ap (λ (b : Bool). if b then leaving (y.left - 1) (record y { again = y.again - 1 }) else y) off ∙ kept in
     sym (ap (λ (z : Stream). with_stream x s z) same ∙ ap (λ (ys : List Stream). record x { streams = ys }) (set-get_or x.streams s unused))

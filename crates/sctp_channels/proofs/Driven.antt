@@ -30,10 +30,12 @@ use Rattle.sctp_channels.specs.Streams.{unused, with_channel, Table, fresh_table
 use Rattle.sctp_channels.specs.Told as told
 use Rattle.sctp_channels.specs.Told.{Closed, BufferedAmountLow, Report}
 use Rattle.sctp_channels.specs.Settling.{without_due}
-use Rattle.sctp_channels.specs.Events.{Reported, quiet, reports_closed, reports_low, reports_taken, reports_waiting, reports_message, next_report, with_reset}
+use Rattle.sctp_channels.specs.Events.{Reported, quiet, reports_closed, reports_low, reports_taken, reports_waiting, reports_message, next_report, with_next, with_reset}
 use Rattle.sctp_channels.specs.Promise.{HasPlace, IsOfChannels}
-use Rattle.sctp_channels.specs.Driven.{is_call, closes, Moves, Elsewhere, Fails, Takes, Notes, NotesNone, Opens, Answers, Says, Refuses, IsNotOpen, Closes, Resets, ResetsNone, Driven, Rests, Goes, Tells, Agrees, Sets, IsClosedIn, IsPartedThere, content_in, contents_on, AreOf, ChannelsAreFaithful}
-use Rattle.sctp_channels.proofs.Promised.{comes_keeps, comes_open, report_cases, one_report, low_is_open, beyond, at_same, at_other, same_or_not, within, noted_now, places_are_kept, contents_are_taken, closed_at_the_place, channels_say_what_was_sent}
+use Rattle.sctp_channels.specs.Driven.{is_call, closes, Moves, Elsewhere, Fails, Takes, Notes, NotesNone, Opens, Answers, Says, Refuses, IsNotOpen, Closes, Resets, ResetsNone, Driven, Rests, Goes, Tells, Agrees, Sets, Frees, IsClosedIn, IsPartedThere, content_in, contents_on, AreOf, ChannelsAreFaithful}
+use Rattle.sctp_channels.proofs.SpanLemmas.{unused_there}
+use Rattle.sctp_channels.proofs.Marks.{Marked, marked_more, none_marked, noted_marked, put, same_marked, next_marked, report_marked}
+use Rattle.sctp_channels.proofs.Promised.{Keeps, comes_keeps, comes_open, report_cases, one_report, low_is_open, beyond, at_same, at_other, same_or_not, within, noted_now, places_are_kept, contents_are_taken, closed_at_the_place, channels_say_what_was_sent}
 use Rattle.sctp_channels.proofs.NextChannel.{beside_kept, notes_kept, took}
 
 -- ---- lists
@@ -180,51 +182,7 @@ driven_sends y w x es os vs rs u (Goes _ v _ z _ e o more others worlds now next
 driven_sends y w x es os vs rs u (Tells _ _ _ _ _ _ r more is same on) a has = driven_sends y w (next_report (end_of w y) x).table es os vs more u on a has
 driven_sends y w x es os vs rs u (Agrees _ _ _ _ _ _ _ s t ordered r is on) a has = driven_sends y w _ es os vs rs u on a has
 driven_sends y w x es os vs rs u (Sets _ _ _ _ _ _ _ s k may on) a has = driven_sends y w _ es os vs rs u on a has
-
--- ---- the place of a reset
-
-module _ (y : Side) (n : ℕ) where
-  abbrev closing : Report
-  closing = record { stream = n; told = Closed }
-
-  -- a stream whose mark stays
-  stands : (v : EndView) (x : Table) (s : ℕ) (z : Stream) (k : ℕ) → z.left ≡ (stream_at x s).left → z.is_reset ≡ (stream_at x s).is_reset → HasPlace v x n k → HasPlace v (with_stream x s z) n k
-  stands v x s z k left reset p = go (same_or_not s n)
-    where
-      go : (s ≡ n) ⊎ (n ≡ s → ⊥) → HasPlace v (with_stream x s z) n k
-      go (inl e) =
-          let is : stream_at (with_stream x s z) n ≡ z = subst (λ (j : ℕ). stream_at (with_stream x j z) n ≡ z) (sym e) (at_same x n z (within v x n k p)) in
-          let here : stream_at x s ≡ stream_at x n = ap (λ (j : ℕ). stream_at x j) e in
-          beside_kept n k v x v (with_stream x s z)
-          (record { taken = refl; left = ap (λ (q : Stream). q.left) is ∙ left ∙ ap (λ (q : Stream). q.left) here; is_reset = ap (λ (q : Stream). q.is_reset) is ∙ reset ∙ ap (λ (q : Stream). q.is_reset) here }) p
-      go (inr ne) =
-          let is = at_other x s n z ne in
-          beside_kept n k v x v (with_stream x s z) (record { taken = refl; left = ap (λ (q : Stream). q.left) is; is_reset = ap (λ (q : Stream). q.is_reset) is }) p
-
-  -- another view with the same messages taken
-  seen : (v u : EndView) (x : Table) (k : ℕ) → u.receiver.taken n ≡ v.receiver.taken n ++ [] → HasPlace v x n k → HasPlace u x n k
-  seen v u x k is p = beside_kept n k v x u x (record { taken = is ∙ append-nil (v.receiver.taken n); left = refl; is_reset = refl }) p
-
-  -- other thresholds
-  aside : (v : EndView) (x : Table) (ts : List Threshold) (k : ℕ) → HasPlace v x n k → HasPlace v (record x { thresholds = ts }) n k
-  aside v x ts k p = beside_kept n k v x v (record x { thresholds = ts }) (record { taken = refl; left = refl; is_reset = refl }) p
-
-  moved : (v u : EndView) (x : Table) (e : Event) (o : Option Outcome) (rs : List Report) (z : Table) → Moves y v u x e o rs z →
-      u.receiver.taken n ≡ v.receiver.taken n ++ taken_by y n e o → (Has rs closing → ⊥) → (k : ℕ) → HasPlace v x n k → HasPlace u z n k
-  moved v u x e o rs z (Elsewhere _ _ off) took unclosed k p = seen v u x k (took ∙ ap (λ (hs : List Handed). v.receiver.taken n ++ hs) (quiet_taken y n e o off)) p
-  moved v u x e o rs z (Fails _) took unclosed k p = seen v u x k (took ∙ ap (λ (hs : List Handed). v.receiver.taken n ++ hs) (quiet_none e y n).taken) p
-  moved v u x e o rs z (Takes s h r is leaves untold) took unclosed k p =
-      subst (λ (q : EndView). HasPlace q (next_report v x).table n k) (sym leaves) (places_are_kept v x n k p (λ closed. unclosed (inl (some_is r closing (sym is ∙ closed)))))
-  moved v u x e o rs z (Notes s count) took unclosed k p = seen v u (with_reset s count x) k took (notes_kept n k v x s count p)
-  moved v u x e o rs z NotesNone took unclosed k p = seen v u x k took p
-  moved v u x e o rs z (Opens s t c choice is) took unclosed k p = seen v u z k took (stands v x s (with_channel state.Connecting c.ordered c.reliability (stream_at x s)) k refl refl p)
-  moved v u x e o rs z (Answers s t is) took unclosed k p = seen v u z k took (stands v x s (without_due (stream_at x s)) k refl refl p)
-  moved v u x e o rs z (Says s t now c may) took unclosed k p = aside u x (with_look u s x).thresholds k (seen v u x k took p)
-  moved v u x e o rs z (Refuses c why) took unclosed k p = seen v u x k took p
-  moved v u x e o rs z (IsNotOpen c) took unclosed k p = seen v u x k took p
-  moved v u x e o rs z (Closes s may) took unclosed k p = seen v u z k took (stands v x s (closes (stream_at x s)) k refl refl p)
-  moved v u x e o rs z (Resets s _ is by) took unclosed k p = seen v u z k took (stands v x s (without_due (stream_at x s)) k refl refl p)
-  moved v u x e o rs z (ResetsNone s _ by) took unclosed k p = seen v u x k took p
+driven_sends y w x es os vs rs u (Frees _ _ _ _ _ _ _ s gone on) a has = driven_sends y w _ es os vs rs u on a has
 
 -- ---- what is told
 
@@ -315,6 +273,7 @@ module _ (y : Side) (n : ℕ) where
       absurd (let twice = ap length (sym one ∙ ap (λ (q : EndView). q.receiver.taken n) same) in let l = length-append ((end_of w y).receiver.taken n) (m ∷ []) in omega (arith, twice, l)))
   driven_says w x es os vs rs u (Agrees _ _ _ _ _ _ _ s t ordered r is on) passes fresh sound = driven_says w _ es os vs rs u on passes fresh sound
   driven_says w x es os vs rs u (Sets _ _ _ _ _ _ _ s k may on) passes fresh sound = driven_says w _ es os vs rs u on passes fresh sound
+  driven_says w x es os vs rs u (Frees _ _ _ _ _ _ _ s gone on) passes fresh sound = driven_says w _ es os vs rs u on passes fresh sound
 
 -- ---- resets are noted before messages are taken
 
@@ -346,6 +305,7 @@ module _ (y : Side) (n : ℕ) where
   driven_takes w x es os vs rs u (Tells _ _ _ _ _ _ r more is same on) = driven_takes w (next_report (end_of w y) x).table es os vs more u on
   driven_takes w x es os vs rs u (Agrees _ _ _ _ _ _ _ s t ordered r is on) = driven_takes w _ es os vs rs u on
   driven_takes w x es os vs rs u (Sets _ _ _ _ _ _ _ s k may on) = driven_takes w _ es os vs rs u on
+  driven_takes w x es os vs rs u (Frees _ _ _ _ _ _ _ s gone on) = driven_takes w _ es os vs rs u on
 
 -- ---- a run
 
@@ -366,122 +326,14 @@ taken_both y n (e ∷ es) (o ∷ os) more others same =
 taken_both y n [] (o ∷ os) more others same = absurd (cc same)
 taken_both y n (e ∷ es) [] more others same = absurd (cc same)
 
--- ---- the mark of a reset
-
-beyond_set : (xs : List Stream) (i : ℕ) (z d : Stream) → length xs ≤ i → slice_index_or (slice_set xs i z) i d ≡ d
-beyond_set [] i z d le = beyond [] i d le
-beyond_set (x ∷ xs) zero z d le = absurd (omega (arith, le))
-beyond_set (x ∷ xs) (suc i) z d le = beyond_set xs i z d (omega (arith, le))
-
-fresh_unset : (many n : ℕ) → (slice_index_or (replicate many unused) n unused).is_reset ≡ false
-fresh_unset zero zero = refl
-fresh_unset zero (suc n) = refl
-fresh_unset (suc many) zero = refl
-fresh_unset (suc many) (suc n) = fresh_unset many n
-
-module _ (n : ℕ) where
-  abbrev Unset : Table → Type 0
-  Unset x = (stream_at x n).is_reset ≡ false
-
-  set_unset : (x : Table) (i : ℕ) (z : Stream) → (i ≡ n → z.is_reset ≡ false) → Unset x ⊎ (i ≡ n) → Unset (with_stream x i z)
-  set_unset x i z off so = go (same_or_not i n)
-    where
-      there : (k : ℕ) → k ≡ n → z.is_reset ≡ false → Unset (with_stream x k z)
-      there k e is = subst (λ (j : ℕ). Unset (with_stream x j z)) (sym e) (elim (cases_lt n (length x.streams)) [
-        | inl lt ↦ ap (λ (y : Stream). y.is_reset) (at_same x n z lt) ∙ is
-        | inr le ↦ ap (λ (y : Stream). y.is_reset) (beyond_set x.streams n z unused le)
-      ])
-
-      by : (n ≡ i → ⊥) → Unset x ⊎ (i ≡ n) → Unset (with_stream x i z)
-      by ne (inl is) = ap (λ (y : Stream). y.is_reset) (at_other x i n z ne) ∙ is
-      by ne (inr e) = absurd (ne (sym e))
-
-      go : (i ≡ n) ⊎ (n ≡ i → ⊥) → Unset (with_stream x i z)
-      go (inl e) = there i e (off e)
-      go (inr ne) = by ne so
-
-  -- a stream whose mark stays
-  same_unset : (x : Table) (i : ℕ) (z : Stream) → z.is_reset ≡ (stream_at x i).is_reset → Unset x → Unset (with_stream x i z)
-  same_unset x i z same off = set_unset x i z (λ e. same ∙ ap (λ (k : ℕ). (stream_at x k).is_reset) e ∙ off) (inl off)
-
-  heard_unset : (a : After) → a.stream.is_reset ≡ false → (heard a).is_reset ≡ false
-  heard_unset a off = go a.taken
-    where
-      counted : (b : Bool) → a.stream.is_reset ≡ b → b ≡ false → (if b then leaving (a.stream.left - 1) a.stream else a.stream).is_reset ≡ false
-      counted true is off_now = absurd (cc)
-      counted false is off_now = is
-
-      go : (b : Bool) → (if b then one_taken a.stream else a.stream).is_reset ≡ false
-      go true = counted a.stream.is_reset refl off
-      go false = off
-
-  -- an event that is told sets no mark, and a channel that is closed has none
-  module _ (v : EndView) (x : Table) where
-    abbrev P : Reported → Type 0
-    P r = Unset x ⊎ (r.report ≡ Some (record { stream = n; told = Closed })) → Unset r.table
-
-    by_closed : (i : ℕ) → P (reports_closed i v x)
-    by_closed i (inl off) = set_unset x i unused (λ e. refl) (inl off)
-    by_closed i (inr is) = set_unset x i unused (λ e. refl) (inr (one_report i n Closed Closed is).0)
-
-    by_low : (i : ℕ) → P (reports_low i v x)
-    by_low i (inl off) = off
-    by_low i (inr is) = absurd (low_is_open (one_report i n BufferedAmountLow Closed is).1)
-
-    by_quiet : P (quiet v x)
-    by_quiet (inl off) = off
-    by_quiet (inr is) = absurd (cc)
-
-    abbrev after : (i : ℕ) → Handed → After
-    after i h = comes x.role (outgoing v x) i h (stream_at x i)
-
-    put : (i : ℕ) (h : Handed) → Unset x → Unset (with_stream x i (heard (after i h)))
-    put i h off = set_unset x i (heard (after i h))
-        (λ e. heard_unset (after i h) ((comes_keeps x.role (outgoing v x) i h (stream_at x i)).is_reset ∙ ap (λ (k : ℕ). (stream_at x k).is_reset) e ∙ off)) (inl off)
-
-    never : (i : ℕ) (h : Handed) → ◌≡◌ {A = Option Report} (Some (record { stream = i; told = (after i h).told })) (Some (record { stream = n; told = Closed })) → ⊥
-    never i h is = comes_open x.role (outgoing v x) i h (stream_at x i) (one_report i n (after i h).told Closed is).1
-
-    by_taken : (i : ℕ) (h : Handed) (rest : List Handed) (b : Bool) → P (if b then reports_taken i h rest (after i h) v x else reports_waiting i (after i h) v x)
-    by_taken i h rest true (inl off) = put i h off
-    by_taken i h rest true (inr is) = absurd (never i h is)
-    by_taken i h rest false (inl off) = put i h off
-    by_taken i h rest false (inr is) = absurd (never i h is)
-
-    by_waiting : (i : ℕ) (hs : List Handed) → P (reports_message i hs v x)
-    by_waiting i [] = by_quiet
-    by_waiting i (h ∷ rest) = by_taken i h rest (after i h).taken
-
-    next_unset : Unset x ⊎ ((next_report v x).report ≡ Some (record { stream = n; told = Closed })) → Unset (next_report v x).table
-    next_unset = report_cases P v x (λ i on. by_closed i) by_low (λ i on. by_waiting i (v.receiver.waiting i)) by_quiet (λ i on. by_closed i)
-
-closed_or_not : (n : ℕ) (r : Report) → (r ≡ record { stream = n; told = Closed }) ⊎ (r ≡ record { stream = n; told = Closed } → ⊥)
-closed_or_not n r = go r.told refl
-  where
-    by_stream : r.told ≡ Closed → (r.stream ≡ n) ⊎ (n ≡ r.stream → ⊥) → (r ≡ record { stream = n; told = Closed }) ⊎ (r ≡ record { stream = n; told = Closed } → ⊥)
-    by_stream is (inl e) = inl (ap (λ (t : told.Told). record { stream = r.stream; told = t }) is ∙ ap (λ (k : ℕ). record { stream = k; told = Closed }) e)
-    by_stream is (inr ne) = inr (λ same. ne (sym (ap (λ (q : Report). q.stream) same)))
-
-    other_told : (t : told.Told) → r.told ≡ t → (t ≡ Closed → ⊥) → (r ≡ record { stream = n; told = Closed }) ⊎ (r ≡ record { stream = n; told = Closed } → ⊥)
-    other_told t is not_closed = inr (λ same. not_closed (sym is ∙ ap (λ (q : Report). q.told) same))
-
-    go : (t : told.Told) → r.told ≡ t → (r ≡ record { stream = n; told = Closed }) ⊎ (r ≡ record { stream = n; told = Closed } → ⊥)
-    go (told.Incoming p) is = other_told (told.Incoming p) is (λ h. cc h)
-    go told.Opened is = other_told told.Opened is (λ h. cc h)
-    go (told.Message c) is = other_told (told.Message c) is (λ h. cc h)
-    go told.Closed is = by_stream is (same_or_not r.stream n)
-    go told.BufferedAmountLow is = other_told told.BufferedAmountLow is (λ h. cc h)
-    go (told.Refuses why) is = other_told (told.Refuses why) is (λ h. cc h)
-    go (told.Ignores why) is = other_told (told.Ignores why) is (λ h. cc h)
-
 -- ---- which reset a channel is closed for
 
 abbrev none_handed : List Handed
 none_handed = []
 
 module _ (y : Side) (n : ℕ) where
-  -- in these events a reset was told, of which the stream has the place
-  record Since (es : List Event) (os : List (Option Outcome)) (v : EndView) (x : Table) : Type 0 where
+  -- in these events a reset was told, with this place
+  record ToldAt (es : List Event) (os : List (Option Outcome)) (k : ℕ) : Type 0 where
     past : List Event
     mid : List Event
     answers : List (Option Outcome)
@@ -490,16 +342,10 @@ module _ (y : Side) (n : ℕ) where
     events : es ≡ past ++ WasReset y ∷ mid
     outcomes : os ≡ answers ++ Some (ResetThere n waiting) ∷ mids
     aligned : length answers ≡ length past
-    place : HasPlace v x n (length (taken y n past answers) + waiting)
+    place : length (taken y n past answers) + waiting ≡ k
 
-  abbrev Mark : List Event → List (Option Outcome) → EndView → Table → Type 0
-  Mark es os v x = Unset n x ⊎ Since es os v x
-
-  -- the mark stays, after some events more
-  mark_on : (es more : List Event) (os others : List (Option Outcome)) (v u : EndView) (x z : Table) → (Unset n x → Unset n z) → ((k : ℕ) → HasPlace v x n k → HasPlace u z n k) →
-      Mark es os v x → Mark (es ++ more) (os ++ others) u z
-  mark_on es more os others v u x z off kept (inl is) = inl (off is)
-  mark_on es more os others v u x z off kept (inr t) = inr (record {
+  told_later : (es more : List Event) (os others : List (Option Outcome)) (k : ℕ) → ToldAt es os k → ToldAt (es ++ more) (os ++ others) k
+  told_later es more os others k t = record {
     past = t.past;
     mid = t.mid ++ more;
     answers = t.answers;
@@ -508,70 +354,80 @@ module _ (y : Side) (n : ℕ) where
     events = ap (λ (fs : List Event). fs ++ more) t.events ∙ append_assoc t.past (WasReset y ∷ t.mid) more;
     outcomes = ap (λ (ps : List (Option Outcome)). ps ++ others) t.outcomes ∙ append_assoc t.answers (Some (ResetThere n t.waiting) ∷ t.mids) others;
     aligned = t.aligned;
-    place = kept (length (taken y n t.past t.answers) + t.waiting) t.place;
-  })
+    place = t.place;
+  }
+
+  -- the marks of the stream are of resets that were told
+  abbrev Mark : List Event → List (Option Outcome) → EndView → Table → Type 0
+  Mark es os v x = Marked (ToldAt es os) (length (v.receiver.taken n)) (stream_at x n)
+
+  -- after one event more, by which no message of the stream is taken
+  abbrev Goes_on : List Event → List (Option Outcome) → Event → Option Outcome → EndView → Table → Table → Type 0
+  Goes_on es os e o v x z = Marked (ToldAt (es ++ e ∷ []) (os ++ o ∷ [])) (length (v.receiver.taken n)) (stream_at x n) → Marked (ToldAt (es ++ e ∷ []) (os ++ o ∷ [])) (length (v.receiver.taken n)) (stream_at z n)
+
+  mark_on : (es : List Event) (os : List (Option Outcome)) (e : Event) (o : Option Outcome) (v u : EndView) (x z : Table) → u.receiver.taken n ≡ v.receiver.taken n ++ [] → Goes_on es os e o v x z →
+      Mark es os v x → Mark (es ++ e ∷ []) (os ++ o ∷ []) u z
+  mark_on es os e o v u x z took on m =
+      subst (λ (hs : List Handed). Marked (ToldAt (es ++ e ∷ []) (os ++ o ∷ [])) (length hs) (stream_at z n)) (sym (took ∙ append-nil (v.receiver.taken n)))
+      (on (marked_more (ToldAt es os) (ToldAt (es ++ e ∷ []) (os ++ o ∷ [])) (length (v.receiver.taken n)) (stream_at x n) (told_later es (e ∷ []) os (o ∷ [])) m))
+
+  -- a stream whose mark stays
+  stands : (es : List Event) (os : List (Option Outcome)) (e : Event) (o : Option Outcome) (v : EndView) (x : Table) (s : ℕ) (z : Stream) → Keeps (stream_at x s) z → Goes_on es os e o v x (with_stream x s z)
+  stands es os e o v x s z k p = same_marked n (ToldAt (es ++ e ∷ []) (os ++ o ∷ [])) (length (v.receiver.taken n)) x p s z k
+
+  -- the same, once a reset more was told
+  abbrev Noted : List Event → List (Option Outcome) → (s k : ℕ) → ℕ → Type 0
+  Noted es os s k = ToldAt (es ++ WasReset y ∷ []) (os ++ Some (ResetThere s k) ∷ [])
 
   move_mark : (es : List Event) (os : List (Option Outcome)) (v u : EndView) (x : Table) (e : Event) (o : Option Outcome) (rs : List Report) (z : Table) → Moves y v u x e o rs z →
       u.receiver.taken n ≡ v.receiver.taken n ++ taken_by y n e o → length (v.receiver.taken n) ≡ length (taken y n es os) → length os ≡ length es →
       Mark es os v x → Mark (es ++ e ∷ []) (os ++ o ∷ []) u z
-  move_mark es os v u x e o rs z (Elsewhere _ _ off) took count same m = mark_on es (e ∷ []) os (o ∷ []) v u x x (λ h. h) (moved y n v u x e o [] x (Elsewhere e o off) took (λ has. absurd has)) m
-  move_mark es os v u x e o rs z (Fails _) took count same m = mark_on es (e ∷ []) os (None ∷ []) v u x x (λ h. h) (moved y n v u x e None [] x (Fails e) took (λ has. absurd has)) m
-  move_mark es os v u x e o rs z (Takes s h r is leaves untold) took count same m = go (closed_or_not n r)
+  move_mark es os v u x e o rs z (Elsewhere _ _ off) took count same m =
+      mark_on es os e o v u x x (took ∙ ap (λ (hs : List Handed). v.receiver.taken n ++ hs) (quiet_taken y n e o off)) (λ p. p) m
+  move_mark es os v u x e o rs z (Fails _) took count same m = mark_on es os e None v u x x (took ∙ ap (λ (hs : List Handed). v.receiver.taken n ++ hs) (quiet_none e y n).taken) (λ p. p) m
+  move_mark es os v u x e o rs z (Takes s h r is leaves untold) took count same m =
+      let T : ℕ → Type 0 = ToldAt (es ++ Take y s ∷ []) (os ++ Some (Message h) ∷ []) in
+      subst (λ (q : EndView). Marked T (length (q.receiver.taken n)) (stream_at (next_report v x).table n)) (sym leaves)
+      (report_marked n T v x (marked_more (ToldAt es os) T (length (v.receiver.taken n)) (stream_at x n) (told_later es (Take y s ∷ []) os (Some (Message h) ∷ [])) m))
+  move_mark es os v u x e o rs z (Notes s k) took count same m = mark_on es os (WasReset y) (Some (ResetThere s k)) v u x (with_reset s k x) took noted m
     where
-      go : (r ≡ record { stream = n; told = Closed }) ⊎ (r ≡ record { stream = n; told = Closed } → ⊥) → Mark (es ++ Take y s ∷ []) (os ++ Some (Message h) ∷ []) u (next_report v x).table
-      go (inl closed) = inl (next_unset n v x (inr (is ∙ ap (λ (q : Report). Some q) closed)))
-      go (inr not_closed) = mark_on es (Take y s ∷ []) os (Some (Message h) ∷ []) v u x (next_report v x).table (λ off. next_unset n v x (inl off))
-          (moved y n v u x (Take y s) (Some (Message h)) (r ∷ []) (next_report v x).table (Takes s h r is leaves untold) took (λ has. elim has [ inl closed ↦ not_closed closed | inr none ↦ absurd none ])) m
-  move_mark es os v u x e o rs z (Notes s k) took count same m = go (same_or_not s n) m
-    where
-      on : ((Unset n x) → Unset n (with_reset s k x)) → Mark es os v x → Mark (es ++ WasReset y ∷ []) (os ++ Some (ResetThere s k) ∷ []) u (with_reset s k x)
-      on off = mark_on es (WasReset y ∷ []) os (Some (ResetThere s k) ∷ []) v u x (with_reset s k x) off
-          (moved y n v u x (WasReset y) (Some (ResetThere s k)) [] (with_reset s k x) (Notes s k) took (λ has. absurd has))
-
-      now : Unset n x → n < length x.streams → Mark (es ++ WasReset y ∷ []) (os ++ Some (ResetThere n k) ∷ []) u (with_reset n k x)
-      now off lt = inr (record {
+      told : s ≡ n → Noted es os s k (length (v.receiver.taken n) + k)
+      told e = record {
         past = es;
         mid = [];
         answers = os;
         mids = [];
         waiting = k;
         events = refl;
-        outcomes = refl;
+        outcomes = ap (λ (j : ℕ). os ++ Some (ResetThere j k) ∷ []) e;
         aligned = same;
-        place = subst (λ (i : ℕ). HasPlace u (with_reset n k x) n (i + k)) count (seen y n v u (with_reset n k x) (length (v.receiver.taken n) + k) took (noted_now v x n k lt off));
-      })
+        place = ap (λ (i : ℕ). i + k) (sym count);
+      }
 
-      here : Unset n x → (n < length x.streams) ⊎ (length x.streams ≤ n) → Mark (es ++ WasReset y ∷ []) (os ++ Some (ResetThere n k) ∷ []) u (with_reset n k x)
-      here off (inl lt) = now off lt
-      here off (inr le) = inl (ap (λ (q : Stream). q.is_reset) (beyond_set x.streams n (peer_resets k (stream_at x n)) unused le))
-
-      go : (s ≡ n) ⊎ (n ≡ s → ⊥) → Mark es os v x → Mark (es ++ WasReset y ∷ []) (os ++ Some (ResetThere s k) ∷ []) u (with_reset s k x)
-      go (inl e) (inl off) = subst (λ (i : ℕ). Mark (es ++ WasReset y ∷ []) (os ++ Some (ResetThere i k) ∷ []) u (with_reset i k x)) (sym e) (here off (cases_lt n (length x.streams)))
-      go (inl e) (inr t) = on (λ off. absurd (let set = t.place.is_reset in cc)) (inr t)
-      go (inr ne) m = on (λ off. ap (λ (q : Stream). q.is_reset) (at_other x s n (peer_resets k (stream_at x s)) ne) ∙ off) m
-  move_mark es os v u x e o rs z NotesNone took count same m = mark_on es (WasReset y ∷ []) os (Some NoReset ∷ []) v u x x (λ h. h) (λ k p. seen y n v u x k took p) m
-  move_mark es os v u x e o rs z (Says s t now c may) took count same m =
-      mark_on es _ os _ v u x (with_look u s x) (λ h. h) (λ k p. aside y n u x (with_look u s x).thresholds k (seen y n v u x k took p)) m
-  move_mark es os v u x e o rs z (Refuses c why) took count same m = mark_on es _ os _ v u x x (λ h. h) (λ k p. seen y n v u x k took p) m
-  move_mark es os v u x e o rs z (IsNotOpen c) took count same m = mark_on es _ os _ v u x x (λ h. h) (λ k p. seen y n v u x k took p) m
-  move_mark es os v u x e o rs z (ResetsNone s _ by) took count same m = mark_on es _ os _ v u x x (λ h. h) (λ k p. seen y n v u x k took p) m
+      noted : Goes_on es os (WasReset y) (Some (ResetThere s k)) v x (with_reset s k x)
+      noted p = put (λ (q : Stream). Marked (Noted es os s k) (length (v.receiver.taken n)) q) x s n (peer_resets k (stream_at x s))
+          (λ e. noted_marked (Noted es os s k) (length (v.receiver.taken n)) (stream_at x s) k (told e) (subst (λ (j : ℕ). Marked (Noted es os s k) (length (v.receiver.taken n)) (stream_at x j)) (sym e) p))
+          (none_marked (Noted es os s k) (length (v.receiver.taken n))) p
+  move_mark es os v u x e o rs z NotesNone took count same m = mark_on es os e o v u x x took (λ p. p) m
+  move_mark es os v u x e o rs z (Says s t now c may) took count same m = mark_on es os e o v u x (with_look u s x) took (λ p. p) m
+  move_mark es os v u x e o rs z (Refuses c why) took count same m = mark_on es os e o v u x x took (λ p. p) m
+  move_mark es os v u x e o rs z (IsNotOpen c) took count same m = mark_on es os e o v u x x took (λ p. p) m
+  move_mark es os v u x e o rs z (ResetsNone s _ by) took count same m = mark_on es os e o v u x x took (λ p. p) m
   move_mark es os v u x e o rs z (Opens s t c choice is) took count same m =
-      mark_on es _ os _ v u x (with_stream x s (with_channel state.Connecting c.ordered c.reliability (stream_at x s))) (same_unset n x s (with_channel state.Connecting c.ordered c.reliability (stream_at x s)) refl)
-      (λ k p. seen y n v u (with_stream x s (with_channel state.Connecting c.ordered c.reliability (stream_at x s))) k took (stands y n v x s (with_channel state.Connecting c.ordered c.reliability (stream_at x s)) k refl refl p)) m
+      mark_on es os e o v u x (with_stream x s (with_channel state.Connecting c.ordered c.reliability (stream_at x s))) took
+      (stands es os e o v x s (with_channel state.Connecting c.ordered c.reliability (stream_at x s)) (record { left = refl; again = refl; resets = refl })) m
   move_mark es os v u x e o rs z (Answers s t is) took count same m =
-      mark_on es _ os _ v u x (with_stream x s (without_due (stream_at x s))) (same_unset n x s (without_due (stream_at x s)) refl)
-      (λ k p. seen y n v u (with_stream x s (without_due (stream_at x s))) k took (stands y n v x s (without_due (stream_at x s)) k refl refl p)) m
+      mark_on es os e o v u x (with_stream x s (without_due (stream_at x s))) took (stands es os e o v x s (without_due (stream_at x s)) (record { left = refl; again = refl; resets = refl })) m
   move_mark es os v u x e o rs z (Closes s may) took count same m =
-      mark_on es _ os _ v u x (with_stream x s (closes (stream_at x s))) (same_unset n x s (closes (stream_at x s)) refl)
-      (λ k p. seen y n v u (with_stream x s (closes (stream_at x s))) k took (stands y n v x s (closes (stream_at x s)) k refl refl p)) m
+      mark_on es os e o v u x (with_stream x s (closes (stream_at x s))) took (stands es os e o v x s (closes (stream_at x s)) (record { left = refl; again = refl; resets = refl })) m
   move_mark es os v u x e o rs z (Resets s _ is by) took count same m =
-      mark_on es _ os _ v u x (with_stream x s (without_due (stream_at x s))) (same_unset n x s (without_due (stream_at x s)) refl)
-      (λ k p. seen y n v u (with_stream x s (without_due (stream_at x s))) k took (stands y n v x s (without_due (stream_at x s)) k refl refl p)) m
+      mark_on es os e o v u x (with_stream x s (without_due (stream_at x s))) took (stands es os e o v x s (without_due (stream_at x s)) (record { left = refl; again = refl; resets = refl })) m
 
   driven_mark : (es : List Event) (os : List (Option Outcome)) (w : World) (x : Table) (more : List Event) (others : List (Option Outcome)) (vs : List World) (rs : List Report) (u : Table) →
       Driven y w x more others vs rs u → PassesThrough w more others vs → IsFresh w → AreSound w → length ((end_of w y).receiver.taken n) ≡ length (taken y n es os) → length os ≡ length es →
       Mark es os (end_of w y) x → Mark (es ++ more) (os ++ others) (end_of (last_of w vs) y) u
-  driven_mark es os w x more others vs rs u (Rests _ _) passes fresh sound count same m = mark_on es [] os [] (end_of w y) (end_of w y) x x (λ h. h) (λ k p. p) m
+  driven_mark es os w x more others vs rs u (Rests _ _) passes fresh sound count same m =
+      marked_more (ToldAt es os) (ToldAt (es ++ []) (os ++ [])) (length ((end_of w y).receiver.taken n)) (stream_at x n) (told_later es [] os []) m
   driven_mark es os w x more others vs rs u (Goes _ v _ z _ e o ahead_of outcomes worlds now next move on) (step, passes) fresh sound count same m =
       let sounds = step_goes_on w e o v fresh sound step in
       let took = (step_noted y n w e o v fresh sound step).taken in
@@ -585,55 +441,15 @@ module _ (y : Side) (n : ℕ) where
       subst (λ (fs : List Event). Mark fs (os ++ o ∷ outcomes) (end_of (last_of v worlds) y) u) (append_assoc es (e ∷ []) ahead_of)
       (subst (λ (ps : List (Option Outcome)). Mark ((es ++ e ∷ []) ++ ahead_of) ps (end_of (last_of v worlds) y) u) (append_assoc os (o ∷ []) outcomes) rest)
   driven_mark es os w x more others vs rs u (Tells _ _ _ _ _ _ r rest is same_view on) passes fresh sound count same m =
-      driven_mark es os w (next_report (end_of w y) x).table more others vs rest u on passes fresh sound count same (go (closed_or_not n r) m)
-    where
-      go : (r ≡ record { stream = n; told = Closed }) ⊎ (r ≡ record { stream = n; told = Closed } → ⊥) → Mark es os (end_of w y) x → Mark es os (end_of w y) (next_report (end_of w y) x).table
-      go (inl closed) m = inl (next_unset n (end_of w y) x (inr (is ∙ ap (λ (q : Report). Some q) closed)))
-      go (inr not_closed) (inl off) = inl (next_unset n (end_of w y) x (inl off))
-      go (inr not_closed) (inr t) = inr (record {
-        past = t.past;
-        mid = t.mid;
-        answers = t.answers;
-        mids = t.mids;
-        waiting = t.waiting;
-        events = t.events;
-        outcomes = t.outcomes;
-        aligned = t.aligned;
-        place = subst (λ (q : EndView). HasPlace q (next_report (end_of w y) x).table n (length (taken y n t.past t.answers) + t.waiting)) same_view
-            (places_are_kept (end_of w y) x n (length (taken y n t.past t.answers) + t.waiting) t.place (λ closed. not_closed (some_is r (record { stream = n; told = Closed }) (sym is ∙ closed))));
-      })
+      driven_mark es os w (next_report (end_of w y) x).table more others vs rest u on passes fresh sound count same
+      (subst (λ (q : EndView). Marked (ToldAt es os) (length (q.receiver.taken n)) (stream_at (next_report (end_of w y) x).table n)) same_view (report_marked n (ToldAt es os) (end_of w y) x m))
   driven_mark es os w x more others vs rs u (Agrees _ _ _ _ _ _ _ s t ordered r is on) passes fresh sound count same m =
-      driven_mark es os w (with_stream x s (with_channel state.Open ordered r (stream_at x s))) more others vs rs u on passes fresh sound count same (go m)
-    where
-      go : Mark es os (end_of w y) x → Mark es os (end_of w y) (with_stream x s (with_channel state.Open ordered r (stream_at x s)))
-      go (inl off) = inl (same_unset n x s (with_channel state.Open ordered r (stream_at x s)) refl off)
-      go (inr t) = inr (record {
-        past = t.past;
-        mid = t.mid;
-        answers = t.answers;
-        mids = t.mids;
-        waiting = t.waiting;
-        events = t.events;
-        outcomes = t.outcomes;
-        aligned = t.aligned;
-        place = stands y n (end_of w y) x s (with_channel state.Open ordered r (stream_at x s)) (length (taken y n t.past t.answers) + t.waiting) refl refl t.place;
-      })
+      driven_mark es os w (with_stream x s (with_channel state.Open ordered r (stream_at x s))) more others vs rs u on passes fresh sound count same
+      (same_marked n (ToldAt es os) (length ((end_of w y).receiver.taken n)) x m s (with_channel state.Open ordered r (stream_at x s)) (record { left = refl; again = refl; resets = refl }))
   driven_mark es os w x more others vs rs u (Sets _ _ _ _ _ _ _ s k may on) passes fresh sound count same m =
-      driven_mark es os w (threshold_set (end_of w y) s k x) more others vs rs u on passes fresh sound count same (go m)
-    where
-      go : Mark es os (end_of w y) x → Mark es os (end_of w y) (threshold_set (end_of w y) s k x)
-      go (inl off) = inl off
-      go (inr t) = inr (record {
-        past = t.past;
-        mid = t.mid;
-        answers = t.answers;
-        mids = t.mids;
-        waiting = t.waiting;
-        events = t.events;
-        outcomes = t.outcomes;
-        aligned = t.aligned;
-        place = aside y n (end_of w y) x (threshold_set (end_of w y) s k x).thresholds (length (taken y n t.past t.answers) + t.waiting) t.place;
-      })
+      driven_mark es os w (threshold_set (end_of w y) s k x) more others vs rs u on passes fresh sound count same m
+  driven_mark es os w x more others vs rs u (Frees _ _ _ _ _ _ _ s gone on) passes fresh sound count same m =
+      driven_mark es os w (with_next (end_of w y) x s) more others vs rs u on passes fresh sound count same (next_marked n (ToldAt es os) (length ((end_of w y).receiver.taken n)) x m (end_of w y) s)
 
 -- ---- the law
 
@@ -659,10 +475,12 @@ module _ (s : Setup) (es : List Event) (os : List (Option Outcome)) (vs : List W
   start_count = took s y n [] [] [] tt
 
   mark : Mark y n c.events c.outcomes v c.table
-  mark = driven_mark y n [] [] (start s) (fresh_table role many) c.events c.outcomes c.worlds c.told c.table c.driven c.passes (λ q. (refl, refl)) (start_sound s) start_count refl (inl (fresh_unset many n))
+  mark =
+      driven_mark y n [] [] (start s) (fresh_table role many) c.events c.outcomes c.worlds c.told c.table c.driven c.passes (λ q. (refl, refl)) (start_sound s) start_count refl
+      (subst (λ (q : Stream). Marked (ToldAt y n [] []) (length ((end_of (start s) y).receiver.taken n)) q) (sym (unused_there many n)) (none_marked (ToldAt y n [] []) (length ((end_of (start s) y).receiver.taken n))))
 
-  by_since : Since y n c.events c.outcomes v c.table → IsPartedThere x n c.events c.outcomes ms
-  by_since t =
+  by_told : ToldAt y n c.events c.outcomes (length (v.receiver.taken n)) → IsPartedThere x n c.events c.outcomes ms
+  by_told t =
       let p = parts told in
       record {
         count = p.count;
@@ -686,10 +504,10 @@ module _ (s : Setup) (es : List Event) (os : List (Option Outcome)) (vs : List W
       }
 
       count : length (taken y n c.events c.outcomes) ≡ length (taken y n t.past t.answers) + t.waiting
-      count = let a = at_place.place in let b = t.place.place in let d = took s y n c.events c.outcomes c.worlds c.passes in omega (arith, a, b, d)
+      count = let b = t.place in let d = took s y n c.events c.outcomes c.worlds c.passes in omega (arith, b, d)
 
   parted_there : IsPartedThere x n c.events c.outcomes ms
-  parted_there = elim mark [ inl off ↦ absurd (let set = at_place.is_reset in cc) | inr t ↦ by_since t ]
+  parted_there = by_told (subst (ToldAt y n c.events c.outcomes) at_place.place (mark.first at_place.is_reset))
 
 pub channels_are_faithful : ChannelsAreFaithful
 channels_are_faithful s es os vs configured passes premises aged roles many rs left driven x n =

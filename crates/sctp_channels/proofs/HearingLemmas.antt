@@ -17,7 +17,7 @@ use Rattle.sctp_dcep.specs.Dcep.{Parameters, Control, Opens, Acknowledges, Fault
 use Rattle.sctp_channels.specs.declared.channels.Channels.{Channels}
 use Rattle.sctp_channels.specs.declared.stream.Due.TheVariants.{Acknowledgement}
 use Rattle.sctp_channels.specs.declared.stream.State.{State}
-use Rattle.sctp_channels.specs.declared.stream.State.TheVariants.{Unused, Connecting, Unanswered, Open, Closing, Refused}
+use Rattle.sctp_channels.specs.declared.stream.State.TheVariants.{Unused, Connecting, Unanswered, Open, Closing, Refused, Silent}
 use Rattle.sctp_channels.specs.declared.stream.Stream.{Stream}
 use Rattle.sctp_channels.specs.declared.table.DtlsRole.{DtlsRole}
 use Rattle.sctp_channels.specs.Streams.{Table, stream_at, with_stream, is_own, with_channel, first_from}
@@ -25,7 +25,7 @@ use Rattle.sctp_channels.specs.Told.{Told, Incoming, Opened, WrongHalf, NoWayBac
 use Rattle.sctp_channels.specs.Coming.{After, tells, refuses, begins, with_ack, control_comes, content_comes, other_comes, Said, OfDcep, OfChannel, said_in, comes_saying, comes, one_taken, heard}
 use Rattle.sctp_channels.specs.Buffered.{is_low}
 use Rattle.sctp_channels.specs.Calling.{outgoing}
-use Rattle.sctp_channels.specs.Events.{Reported, one_on, reports_taken, reports_waiting, reports_after, reports_message, turn, reports_turn, reports_second, reports_first, next_report}
+use Rattle.sctp_channels.specs.Events.{Reported, one_on, reports_taken, reports_waiting, reports_after, reports_message, turn, reports_turn, reports_second, reports_first, next_report, freed_by, with_freed}
 use Rattle.sctp_channels.specs.ChannelsStand.{ChannelsStand}
 use Rattle.sctp_channels.specs.Telling.{Tells}
 
@@ -63,6 +63,7 @@ control_taken role n s Unanswered k x = acked _ k x refl
 control_taken role n s Open k x = acked _ k x refl
 control_taken role n s Closing k x = refl
 control_taken role n s Refused k x = refl
+control_taken role n s Silent k x = refl
 
 other_taken : (t : State) (x : Stream) → (other_comes t x).taken ≡ true
 other_taken Unused x = refl
@@ -71,6 +72,7 @@ other_taken Unanswered x = refl
 other_taken Open x = refl
 other_taken Closing x = refl
 other_taken Refused x = refl
+other_taken Silent x = refl
 
 content_opens : (t : State) (c : Content) (x : Stream) → (content_comes t c x).taken ≡ false → (content_comes t c x).told ≡ Opened
 content_opens Unused c x waits = absurd (cc)
@@ -79,6 +81,7 @@ content_opens Unanswered c x waits = absurd (cc)
 content_opens Open c x waits = absurd (cc)
 content_opens Closing c x waits = absurd (cc)
 content_opens Refused c x waits = absurd (cc)
+content_opens Silent c x waits = absurd (cc)
 
 not_both : {A : Type 0} (b : Bool) → b ≡ true → b ≡ false → A
 not_both true goes waits = absurd (cc)
@@ -124,27 +127,28 @@ reported v x s h rest a waits came = ap (λ (hs : List Handed). reports_message 
 -- one that waits on
 pub told_waiting : (v : EndView) (x : Table) (s : ℕ) (h : Handed) (rest : List Handed) (a : After) (c : Channels) → v.receiver.waiting s ≡ h ∷ rest
     → a ≡ comes x.role (outgoing v x) s h (stream_at x s) → a.taken ≡ false → ChannelsStand c v (with_stream x s a.stream)
-    → Tells (reports_message s (v.receiver.waiting s) v x) (Some (event.Opened s)) c
+    → Tells (with_freed (reports_message s (v.receiver.waiting s) v x)) (Some (event.Opened s)) c
 told_waiting v x s h rest a c waits came stays stands =
     let after : reports_after s h rest a v x ≡ reports_waiting s a v x = ap (λ (b : Bool). if b then reports_taken s h rest a v x else reports_waiting s a v x) stays in
     let opened : a.told ≡ Opened = ap (λ (b : After). b.told) came ∙ waiting_opens x.role (outgoing v x) s (said_in h) (stream_at x s) (sym (ap (λ (b : After). b.taken) came) ∙ stays) in
     let same : heard a ≡ a.stream = ap (λ (b : Bool). if b then one_taken a.stream else a.stream) stays in
-    subst (λ (r : Reported). Tells r (Some (event.Opened s)) c) (sym (reported v x s h rest a waits came ∙ after)) (record {
+    subst (λ (r : Reported). Tells (with_freed r) (Some (event.Opened s)) c) (sym (reported v x s h rest a waits came ∙ after)) (record {
       report = ap (λ (t : Told). Some (record { stream = s; told = t })) (sym opened);
-      stands = subst (λ (y : Stream). ChannelsStand c v (with_stream x s y)) (sym same) stands;
+      stands = subst (λ (t : Told). ChannelsStand c v (freed_by t s v (with_stream x s (heard a)))) (sym opened) (subst (λ (y : Stream). ChannelsStand c v (with_stream x s y)) (sym same) stands);
     })
 
--- one that is taken
+-- one that is taken, and its stream free behind it
 pub told_taken : (v : EndView) (x : Table) (s : ℕ) (h : Handed) (rest : List Handed) (a : After) (e : Event) (c : Channels) → v.receiver.waiting s ≡ h ∷ rest
     → a ≡ comes x.role (outgoing v x) s h (stream_at x s) → a.taken ≡ true → event_meaning e ≡ record { stream = s; told = a.told }
-    → ChannelsStand c (record v { receiver = first_taken v.receiver s h rest }) (record (with_stream x s (one_taken a.stream)) { next = one_on s })
-    → Tells (reports_message s (v.receiver.waiting s) v x) (Some e) c
+    → ChannelsStand c (record v { receiver = first_taken v.receiver s h rest }) (freed_by a.told s (record v { receiver = first_taken v.receiver s h rest }) (record (with_stream x s (one_taken a.stream)) { next = one_on s }))
+    → Tells (with_freed (reports_message s (v.receiver.waiting s) v x)) (Some e) c
 told_taken v x s h rest a e c waits came goes says stands =
     let after : reports_after s h rest a v x ≡ reports_taken s h rest a v x = ap (λ (b : Bool). if b then reports_taken s h rest a v x else reports_waiting s a v x) goes in
     let same : heard a ≡ one_taken a.stream = ap (λ (b : Bool). if b then one_taken a.stream else a.stream) goes in
-    subst (λ (r : Reported). Tells r (Some e) c) (sym (reported v x s h rest a waits came ∙ after)) (record {
+    let u : EndView = record v { receiver = first_taken v.receiver s h rest } in
+    subst (λ (r : Reported). Tells (with_freed r) (Some e) c) (sym (reported v x s h rest a waits came ∙ after)) (record {
       report = ap Some says;
-      stands = subst (λ (y : Stream). ChannelsStand c (record v { receiver = first_taken v.receiver s h rest }) (record (with_stream x s y) { next = one_on s })) (sym same) stands;
+      stands = subst (λ (y : Stream). ChannelsStand c u (freed_by a.told s u (record (with_stream x s y) { next = one_on s }))) (sym same) stands;
     })
 
 -- the message that the user takes is the one that waits

@@ -14,6 +14,10 @@ pub mod PacketLemmas
 pub mod OpeningLemmas
 pub mod SendingLemmas
 pub mod Promised
+pub mod Marks
+pub mod Kept
+pub mod SweepingLemmas
+pub mod FreedLemmas
 pub mod NextChannel
 pub mod Driven
 pub mod AllNoted
@@ -21,6 +25,7 @@ pub mod StreamsThere
 pub mod MadeLemmas
 pub mod MadeRuns
 pub mod MadeSettled
+pub mod MadeSwept
 pub mod MadePackets
 pub mod MadeCalls
 pub mod MadePassed

@@ -16,7 +16,7 @@ use Rattle.sctp_channels.specs.Streams.{Table, stream_at}
 use Rattle.sctp_channels.specs.Told.{Report}
 use Rattle.sctp_channels.specs.Coming.{After, comes}
 use Rattle.sctp_channels.specs.Calling.{outgoing}
-use Rattle.sctp_channels.specs.Events.{Reported, reports_taken, reports_waiting, reports_message, next_report}
+use Rattle.sctp_channels.specs.Events.{Reported, reports_taken, reports_waiting, reports_message, next_report, freed_behind, with_freed}
 use Rattle.sctp_channels.specs.Meanings.{event_meaning}
 use Rattle.sctp_channels.specs.ChannelsStand.{ChannelsStand}
 use Rattle.sctp_channels.specs.Telling.{Tells}
@@ -25,6 +25,7 @@ use Rattle.sctp_channels.specs.Driven as driven
 use Rattle.sctp_channels.specs.Making.{Makes, IsAllNoted, IsMade}
 use Rattle.sctp_channels.specs.MadeByCalls.{reports_of, EventsAreMade}
 use Rattle.sctp_channels.proofs.Promised.{report_cases}
+use Rattle.sctp_channels.proofs.MadeSwept.{makes_freed}
 use Rattle.sctp_channels.proofs.MadeLemmas.{makes_still, makes_nothing, makes_one, own_side, other_side, own_call}
 
 -- ---- what an event is
@@ -93,25 +94,26 @@ module _ (y : Side) (w : World) (x : Table) where
       (steps.TakesOne y t.stream (Some t.message) r.view (record { receiver = first_taken v.receiver t.stream t.message t.rest; takes = (t.rest, t.waits, refl); leaves = t.view }))
       (Takes t.stream t.message q is refl (subst (λ (u : EndView). u.receiver.resets.told t.stream ≡ None) (sym t.view) (all t.stream (λ none. absurd (cc (sym none ∙ t.waits)))))) (other_side y)
 
-  made : (e : Option declared.Event) (c : Channels) → IsAllNoted v → Tells r e c → Kinds v x r → IsMade y w x [] (reports_of e) [] c
+  made : (e : Option declared.Event) (c : Channels) → IsAllNoted v → Tells (with_freed r) e c → Kinds v x r → IsMade y w x [] (reports_of e) [] c
   made e c all tells (IsQuiet none view table) = record {
     view = v;
     table = x;
     makes = subst (λ (rs : List Report). Makes y w x [] rs [] v x) (sym (reports_none e r.report tells.report none)) (makes_nothing y w x);
-    stands = subst (λ (u : EndView). ChannelsStand c u x) view (subst (λ (q : Table). ChannelsStand c r.view q) table tells.stands);
+    stands = subst (λ (u : EndView). ChannelsStand c u x) view (subst (λ (q : Table). ChannelsStand c r.view q) table (subst (λ (o : Option Report). ChannelsStand c r.view (freed_behind o r.view r.table)) none tells.stands));
     noted = λ reached noted. noted;
   }
   made e c all tells (IsTold q is view) = record {
     view = v;
-    table = r.table;
-    makes = subst (λ (rs : List Report). Makes y w x [] rs [] v r.table) (sym (reports_are e r.report tells.report q is)) (told_made q is view);
-    stands = subst (λ (u : EndView). ChannelsStand c u r.table) view tells.stands;
+    table = freed_behind r.report v r.table;
+    makes = subst (λ (rs : List Report). Makes y w x [] rs [] v (freed_behind r.report v r.table)) (sym (reports_are e r.report tells.report q is)) (makes_freed r.report y w x q v r.table (told_made q is view));
+    stands = subst (λ (u : EndView). ChannelsStand c u (freed_behind r.report u r.table)) view tells.stands;
     noted = λ reached noted. noted;
   }
   made e c all tells (IsTaken q is t) = record {
     view = r.view;
-    table = r.table;
-    makes = subst (λ (rs : List Report). Makes y w x [] rs [] r.view r.table) (sym (reports_are e r.report tells.report q is)) (taken_made all q is t);
+    table = freed_behind r.report r.view r.table;
+    makes = subst (λ (rs : List Report). Makes y w x [] rs [] r.view (freed_behind r.report r.view r.table)) (sym (reports_are e r.report tells.report q is))
+        (makes_freed r.report y w x q r.view r.table (taken_made all q is t));
     stands = tells.stands;
     noted = λ reached noted. subst IsAllNoted (sym t.view) (still_noted v t.stream t.message t.rest t.waits noted);
   }

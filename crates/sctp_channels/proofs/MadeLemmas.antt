@@ -14,7 +14,7 @@ use Rattle.sctp_safety.proofs.machine.OneEnd.{IsAt, at_end, at_log}
 use Rattle.sctp_outcomes.specs.Users.{same_side}
 use Rattle.sctp_channels.specs.Streams.{Table}
 use Rattle.sctp_channels.specs.Told.{Report}
-use Rattle.sctp_channels.specs.Driven.{is_call, Moves, Elsewhere, Driven, Rests, Goes, Tells, Agrees, Sets}
+use Rattle.sctp_channels.specs.Driven.{is_call, Moves, Elsewhere, Driven, Rests, Goes, Tells, Agrees, Sets, Frees}
 use Rattle.sctp_channels.specs.Making.{others_in, Makes, IsReached}
 
 -- ---- runs one after the other
@@ -44,6 +44,8 @@ driven_on y w x es os vs rs u fs ps us ss z (Agrees _ _ _ _ _ _ more s t ordered
     Agrees w x z (es ++ fs) (os ++ ps) (vs ++ us) (more ++ ss) s t ordered r is (driven_on y w _ es os vs more u fs ps us ss z on later)
 driven_on y w x es os vs rs u fs ps us ss z (Sets _ _ _ _ _ _ more s n may on) later =
     Sets w x z (es ++ fs) (os ++ ps) (vs ++ us) (more ++ ss) s n may (driven_on y w _ es os vs more u fs ps us ss z on later)
+driven_on y w x es os vs rs u fs ps us ss z (Frees _ _ _ _ _ _ more s gone on) later =
+    Frees w x z (es ++ fs) (os ++ ps) (vs ++ us) (more ++ ss) s gone (driven_on y w _ es os vs more u fs ps us ss z on later)
 
 -- ---- what calls make
 

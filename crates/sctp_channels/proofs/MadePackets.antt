@@ -22,7 +22,7 @@ use Rattle.sctp_endpoint.specs.declared.after.Verdict.TheVariants.{Taken, Droppe
 use Rattle.sctp_channels.specs.declared.channels.Channels.{Channels}
 use Rattle.sctp_channels.specs.Streams.{Table}
 use Rattle.sctp_channels.specs.Settling.{Standing, settled_below, settled_all}
-use Rattle.sctp_channels.specs.Events.{with_reset, reset_noted, resets_noted, all_noted}
+use Rattle.sctp_channels.specs.Events.{with_reset, reset_noted, resets_noted, all_noted, swept, noted_and_swept}
 use Rattle.sctp_channels.specs.Packets.{StandNoted}
 use Rattle.sctp_channels.specs.ChannelsStand.{ChannelsStand}
 use Rattle.sctp_channels.specs.Driven.{is_call, Elsewhere, Notes}
@@ -33,6 +33,7 @@ use Rattle.sctp_channels.proofs.StreamsThere.{waits_there, builds_noted}
 use Rattle.sctp_channels.proofs.MadeLemmas.{packets_in, makes_nothing, makes_more, makes_one, makes_no_time, no_call, makes_told, reached_on}
 use Rattle.sctp_channels.proofs.MadeRuns.{noted_same}
 use Rattle.sctp_channels.proofs.MadeSettled.{any_made, all_receiver}
+use Rattle.sctp_channels.proofs.MadeSwept.{swept_made}
 
 -- ---- a packet is sent
 
@@ -121,6 +122,15 @@ noted_made y (suc n) w x = go (reset_there (end_of w y)) refl (λ u q. noted_mad
         makes_more y w x [] [] [] [] [] [] (told_leaves (Some s) (end_of w y)) _ z _ one
         (subst (λ (e : EndView). Makes y (last_of w one.worlds) z [] [] [] (resets_noted n e z).view (resets_noted n e z).table) one.here more)
 
+-- ---- streams are freed
+
+noted_swept_made : (y : Side) (w : World) (x : Table) → Makes y w x [] [] [] (noted_and_swept (end_of w y) x).view (noted_and_swept (end_of w y) x).table
+noted_swept_made y w x =
+    let t = all_noted (end_of w y) x in
+    let m = noted_made y (end_of w y).receiver.streams w x in
+    makes_more y w x [] [] [] [] [] [] t.view t.view t.table (swept t.view t.table) m
+    (subst (λ (e : EndView). Makes y (last_of w m.worlds) t.table [] [] [] e (swept e t.table)) m.here (swept_made y (length t.table.streams) (last_of w m.worlds) t.table))
+
 -- the same messages wait, on as many streams
 noted_receiver : (n : ℕ) (v : EndView) (x : Table) → ((resets_noted n v x).view.receiver.waiting ≡ v.receiver.waiting) × ((resets_noted n v x).view.receiver.streams ≡ v.receiver.streams)
 noted_receiver zero v x = (refl, refl)
@@ -141,17 +151,16 @@ brings_no_call w e y o (NoPacket _) z = refl
 module _ (y : Side) (w : World) (x : Table) (e : Event) (o : Option Packet) (brings : Brings w e y o) where
   -- one step, and the resets after it
   packet_made : (a : Option Outcome) (v : World) (t : EndView) (given : Option Packet) → IsAt w v y t given → Step w e a v →
-      Makes y w x (e ∷ []) [] (packets_in given) (all_noted t x).view (all_noted t x).table
+      Makes y w x (e ∷ []) [] (packets_in given) (noted_and_swept t x).view (noted_and_swept t x).table
   packet_made a v t given is step =
       let off = brings_no_call w e y o brings in
       let one = makes_one y w x (e ∷ []) e a v t given [] x (no_call y e (off y)) is step (Elsewhere e a (off y)) (off (other y)) in
-      let more : Makes y (last_of w one.worlds) x [] [] [] (all_noted t x).view (all_noted t x).table =
-      subst (λ (q : EndView). Makes y (last_of w one.worlds) x [] [] [] (all_noted q x).view (all_noted q x).table) one.here
-      (noted_made y (end_of (last_of w one.worlds) y).receiver.streams (last_of w one.worlds) x) in
-      subst (λ (ps : List Packet). Makes y w x (e ∷ []) [] ps (all_noted t x).view (all_noted t x).table) (append-nil (packets_in given))
-      (makes_more y w x (e ∷ []) [] [] [] (packets_in given) [] t (all_noted t x).view x (all_noted t x).table one more)
+      let more : Makes y (last_of w one.worlds) x [] [] [] (noted_and_swept t x).view (noted_and_swept t x).table =
+      subst (λ (q : EndView). Makes y (last_of w one.worlds) x [] [] [] (noted_and_swept q x).view (noted_and_swept q x).table) one.here (noted_swept_made y (last_of w one.worlds) x) in
+      subst (λ (ps : List Packet). Makes y w x (e ∷ []) [] ps (noted_and_swept t x).view (noted_and_swept t x).table) (append-nil (packets_in given))
+      (makes_more y w x (e ∷ []) [] [] [] (packets_in given) [] t (noted_and_swept t x).view x (noted_and_swept t x).table one more)
 
-  packet_noted : (ps : List Packet) (t : EndView) → Makes y w x (e ∷ []) [] ps (all_noted t x).view (all_noted t x).table → IsReached w → IsAllNoted (all_noted t x).view
+  packet_noted : (ps : List Packet) (t : EndView) → Makes y w x (e ∷ []) [] ps (noted_and_swept t x).view (noted_and_swept t x).table → IsReached w → IsAllNoted (all_noted t x).view
   packet_noted ps t m r s some =
       let keeps = noted_receiver t.receiver.streams t x in
       let lt : s < (all_noted t x).view.receiver.streams =
@@ -162,7 +171,7 @@ module _ (y : Side) (w : World) (x : Table) (e : Event) (o : Option Packet) (bri
   heard : (a : Option Outcome) (v : World) (t : EndView) (given : Option Packet) (c : Channels) → IsAt w v y t given → Step w e a v → StandNoted t x c → IsMade y w x (e ∷ []) [] (packets_in given) c
   heard a v t given c is step stands =
       let m = packet_made a v t given is step in
-      record { view = (all_noted t x).view; table = (all_noted t x).table; makes = m; stands = stands; noted = λ r all. packet_noted (packets_in given) t m r }
+      record { view = (noted_and_swept t x).view; table = (noted_and_swept t x).table; makes = m; stands = stands; noted = λ r all. packet_noted (packets_in given) t m r }
 
 answered : (told : Verdict) (k : model.Verdict) → VerdictStands told k → IsAnsweredBy (Ok told) (packets_in (answer_of k))
 answered Taken k is = ap (λ (q : model.Verdict). packets_in (answer_of q)) is

@@ -10,7 +10,8 @@ use Rattle.sctp_outcomes.specs.Users.{taken, Match}
 use Rattle.sctp_outcomes.specs.Parted.{IsTold, AreParted, place_of}
 use Rattle.sctp_outcomes.proofs.AgedDates.{start_sound}
 use Rattle.sctp_outcomes.proofs.users.Runs.{run_adds}
-use Rattle.sctp_channels.specs.Streams.{Table, stream_at}
+use Rattle.sctp_channels.specs.declared.stream.Stream.{Stream}
+use Rattle.sctp_channels.specs.Streams.{is_reset, Table, stream_at}
 use Rattle.sctp_channels.specs.Coming.{peer_resets}
 use Rattle.sctp_channels.specs.Events.{next_report, with_reset}
 use Rattle.sctp_channels.specs.Promise.{HasPlace}
@@ -30,7 +31,7 @@ notes_kept s n v x k count p = go (same_or_not k s)
     go (inl e) = subst (λ (j : ℕ). HasPlace v (with_reset j count x) s n) (sym e) ((resets_are_noted v x s (within v x s n p)).1 n count p)
     go (inr ne) =
         let same = at_other x k s (peer_resets count (stream_at x k)) ne in
-        beside_kept s n v x v (with_reset k count x) (record { taken = refl; left = ap (λ y. y.left) same; is_reset = ap (λ y. y.is_reset) same }) p
+        beside_kept s n v x v (with_reset k count x) (record { taken = refl; left = ap (λ (y : Stream). y.left) same; is_reset = ap (λ (y : Stream). is_reset y.resets) same }) p
 
 pub courses_keep_places : CoursesKeepPlaces
 courses_keep_places s n v x u y (Here _ _) p = p

@@ -1,6 +1,6 @@
 -- What is told was taken and sent, and how a reset of the peer's parts a stream's channels.
 use Rattle.std.proofs.Common.{◌≡◌, ◌⊎◌, ℕ, zero, suc, ◌+◌, ◌-◌, ◌<◌, ◌≤◌, ◌==◌, not, ◌&&◌, Bool, true, false, List, [], ◌∷◌, ◌++◌, length, length-append, Option, Some, None, is_some, inl, inr, refl, sym, subst, ap, ◌∙◌, arith, if◌then◌else◌}
-use Rattle.std.specs.Prelude.{nat_le, slice_index_or}
+use Rattle.std.specs.Prelude.{nat_le, max, slice_index_or}
 use Rattle.std.proofs.lemmas.Bool.{and_parts, cases_lt}
 use Rattle.std.proofs.lemmas.Bool.Decides.{nat_tests}
 use lib.Seq.{get_or-set_same, get_or-set_other}
@@ -14,59 +14,64 @@ use Rattle.sctp_outcomes.proofs.users.PartedRuns.{resets_part_messages}
 use Rattle.sctp_dcep.specs.Content.{Content, DCEP, id_of, carried, content_of}
 use Rattle.sctp_dcep.specs.Dcep.{Parameters, Control, Opens, Acknowledges, Faulty, control_of}
 use Rattle.sctp_channels.specs.declared.stream.State.{State}
-use Rattle.sctp_channels.specs.declared.stream.State.TheVariants.{Unused, Connecting, Unanswered, Open, Closing, Refused}
+use Rattle.sctp_channels.specs.declared.stream.State.TheVariants.{Unused, Connecting, Unanswered, Open, Closing, Refused, Silent}
+use Rattle.sctp_channels.specs.declared.stream.Resets.{Resets}
+use Rattle.sctp_channels.specs.declared.stream.Resets.TheVariants.{One, Two}
 use Rattle.sctp_channels.specs.declared.stream.Stream.{Stream}
 use Rattle.sctp_channels.specs.declared.table.DtlsRole.{DtlsRole}
-use Rattle.sctp_channels.specs.Streams.{unused, is_drained, Table, stream_at, with_stream, with_none, is_own, first_from}
+use Rattle.sctp_channels.specs.Streams.{unused, is_reset, is_drained, Table, stream_at, with_stream, with_none, is_own, first_from}
 use Rattle.sctp_channels.specs.Told.{WrongHalf, NoWayBack, Told, Message, Closed, BufferedAmountLow, Report}
-use Rattle.sctp_channels.specs.Coming.{After, tells, begins, refuses, control_comes, content_comes, other_comes, data_comes, Said, OfDcep, OfChannel, said_in, comes_saying, comes, half_closed, leaving, heard, peer_resets}
+use Rattle.sctp_channels.specs.Coming.{After, tells, begins, refuses, control_comes, content_comes, other_comes, data_comes, Said, OfDcep, OfChannel, said_in, comes_saying, comes, half_closed, leaving, heard, peer_resets, left_over}
 use Rattle.sctp_channels.specs.Coming.{Said}
 use Rattle.sctp_channels.specs.Buffered.{is_low, with_low_told}
 use Rattle.sctp_channels.specs.Calling.{outgoing}
 use Rattle.sctp_channels.specs.Settling.{is_closing, is_asked, is_resetting_out, is_closed}
-use Rattle.sctp_channels.specs.Events.{Reported, quiet, reports_closed, reports_low, reports_message, reports_after, reports_taken, reports_waiting, is_empty, is_readable, readable_from, or_else, turn, is_used, reports_end, reports_turn, reports_second, reports_first, next_report, with_reset}
+use Rattle.sctp_channels.specs.Events.{Reported, quiet, reports_closed, reports_low, reports_message, reports_after, reports_taken, reports_waiting, is_empty, is_readable, readable_from, or_else, turn, is_used, reports_end, reports_turn, reports_second, reports_first, next_report, with_left_over, with_next, with_reset}
 use Rattle.sctp_channels.specs.Promise.{ContentsAreTaken, HasPlace, ResetsAreNoted, PlacesAreKept, ClosedAtThePlace, IsOfContent, IsOfChannels, ChannelsSayWhatWasSent}
 
 -- ---- what a message leaves of the mark of a reset
 
 pub record Keeps (x y : Stream) : Type 0 where
   pub left : y.left ≡ x.left
-  pub is_reset : y.is_reset ≡ x.is_reset
+  pub again : y.again ≡ x.again
+  pub resets : y.resets ≡ x.resets
 
 same : (x : Stream) → Keeps x x
-same x = record { left = refl; is_reset = refl }
+same x = record { left = refl; again = refl; resets = refl }
 
 begins_keeps : (role : DtlsRole) (o s : ℕ) (p : Parameters) (x : Stream) → Keeps x (begins role o s p x).stream
 begins_keeps role o s p x = go (is_own role s) (nat_le o s)
   where
     go : (a b : Bool) → Keeps x (if a then refuses WrongHalf x else if b then refuses NoWayBack x else tells (Rattle.sctp_channels.specs.Told.Incoming p) (record (Rattle.sctp_channels.specs.Streams.with_channel Open p.ordered p.reliability x) { due = Rattle.sctp_channels.specs.declared.stream.Due.TheVariants.Acknowledgement })).stream
-    go true b = record { left = refl; is_reset = refl }
-    go false true = record { left = refl; is_reset = refl }
-    go false false = record { left = refl; is_reset = refl }
+    go true b = record { left = refl; again = refl; resets = refl }
+    go false true = record { left = refl; again = refl; resets = refl }
+    go false false = record { left = refl; again = refl; resets = refl }
 
 control_keeps : (role : DtlsRole) (o s : ℕ) (t : State) (k : Control) (x : Stream) → Keeps x (control_comes role o s t k x).stream
 control_keeps role o s Unused (Opens p) x = begins_keeps role o s p x
 control_keeps role o s Unused Acknowledges x = same x
-control_keeps role o s Unused (Faulty w) x = record { left = refl; is_reset = refl }
+control_keeps role o s Unused (Faulty w) x = record { left = refl; again = refl; resets = refl }
 control_keeps role o s Connecting (Opens p) x = same x
-control_keeps role o s Connecting Acknowledges x = record { left = refl; is_reset = refl }
+control_keeps role o s Connecting Acknowledges x = record { left = refl; again = refl; resets = refl }
 control_keeps role o s Connecting (Faulty w) x = same x
 control_keeps role o s Unanswered (Opens p) x = same x
-control_keeps role o s Unanswered Acknowledges x = record { left = refl; is_reset = refl }
+control_keeps role o s Unanswered Acknowledges x = record { left = refl; again = refl; resets = refl }
 control_keeps role o s Unanswered (Faulty w) x = same x
 control_keeps role o s Open (Opens p) x = same x
 control_keeps role o s Open Acknowledges x = same x
 control_keeps role o s Open (Faulty w) x = same x
 control_keeps role o s Closing k x = same x
 control_keeps role o s Refused k x = same x
+control_keeps role o s Silent k x = same x
 
 content_keeps : (t : State) (c : Content) (x : Stream) → Keeps x (content_comes t c x).stream
 content_keeps Unused c x = same x
-content_keeps Connecting c x = record { left = refl; is_reset = refl }
+content_keeps Connecting c x = record { left = refl; again = refl; resets = refl }
 content_keeps Unanswered c x = same x
 content_keeps Open c x = same x
 content_keeps Closing c x = same x
 content_keeps Refused c x = same x
+content_keeps Silent c x = same x
 
 other_keeps : (t : State) (x : Stream) → Keeps x (other_comes t x).stream
 other_keeps Unused x = same x
@@ -75,6 +80,7 @@ other_keeps Unanswered x = same x
 other_keeps Open x = same x
 other_keeps Closing x = same x
 other_keeps Refused x = same x
+other_keeps Silent x = same x
 
 pub comes_keeps : (role : DtlsRole) (o s : ℕ) (h : Handed) (x : Stream) → Keeps x (comes role o s h x).stream
 comes_keeps role o s h x = go (said_in h)
@@ -85,24 +91,27 @@ comes_keeps role o s h x = go (said_in h)
     go (OfChannel None) = other_keeps x.state x
 
 half_keeps : (t : State) (x : Stream) → Keeps x (half_closed t x)
-half_keeps Unused x = record { left = refl; is_reset = refl }
-half_keeps Connecting x = record { left = refl; is_reset = refl }
-half_keeps Unanswered x = record { left = refl; is_reset = refl }
-half_keeps Open x = record { left = refl; is_reset = refl }
-half_keeps Closing x = record { left = refl; is_reset = refl }
-half_keeps Refused x = record { left = refl; is_reset = refl }
+half_keeps Unused x = record { left = refl; again = refl; resets = refl }
+half_keeps Connecting x = record { left = refl; again = refl; resets = refl }
+half_keeps Unanswered x = record { left = refl; again = refl; resets = refl }
+half_keeps Open x = record { left = refl; again = refl; resets = refl }
+half_keeps Closing x = record { left = refl; again = refl; resets = refl }
+half_keeps Refused x = record { left = refl; again = refl; resets = refl }
+half_keeps Silent x = record { left = refl; again = refl; resets = refl }
 
 -- so many are left
-left_is : (n : ℕ) (x : Stream) → ((leaving n x).left ≡ n) × ((leaving n x).is_reset ≡ x.is_reset)
+abbrev IsLeft : (n : ℕ) (x y : Stream) → Type 0
+IsLeft n x y = (y.left ≡ n) × (y.resets ≡ x.resets) × (y.again ≡ x.again)
+
+pub left_is : (n : ℕ) (x : Stream) → ((leaving n x).left ≡ n) × ((leaving n x).resets ≡ x.resets) × ((leaving n x).again ≡ x.again)
 left_is n x = go (n == 0) refl
   where
-    go : (b : Bool) → (n == 0) ≡ b → ((if b then half_closed x.state (record x { left = 0 }) else record x { left = n }).left ≡ n)
-        × ((if b then half_closed x.state (record x { left = 0 }) else record x { left = n }).is_reset ≡ x.is_reset)
+    go : (b : Bool) → (n == 0) ≡ b → IsLeft n x (if b then half_closed x.state (record x { left = 0 }) else record x { left = n })
     go true is =
         let k = half_keeps x.state (record x { left = 0 }) in
         let none : 0 ≡ n = grind (arith, nat_tests, is) in
-        (k.left ∙ none, k.is_reset)
-    go false is = (refl, refl)
+        (k.left ∙ none, k.resets, k.again)
+    go false is = (refl, refl, refl)
 
 -- ---- what a message tells
 
@@ -126,6 +135,7 @@ tells_no role o s Open Acknowledges x c is = cc
 tells_no role o s Open (Faulty w) x c is = cc
 tells_no role o s Closing k x c is = cc
 tells_no role o s Refused k x c is = cc
+tells_no role o s Silent k x c is = cc
 
 content_tells : (t : State) (d : Content) (x : Stream) (c : Content) → (content_comes t d x).told ≡ Message c → (d ≡ c) × ((content_comes t d x).taken ≡ true)
 content_tells Unused d x c is = absurd (cc)
@@ -134,6 +144,7 @@ content_tells Unanswered d x c is = (cc is, refl)
 content_tells Open d x c is = (cc is, refl)
 content_tells Closing d x c is = (cc is, refl)
 content_tells Refused d x c is = absurd (cc)
+content_tells Silent d x c is = absurd (cc)
 
 other_tells : (t : State) (x : Stream) (c : Content) → (other_comes t x).told ≡ Message c → ⊥
 other_tells Unused x c is = cc
@@ -142,6 +153,7 @@ other_tells Unanswered x c is = cc
 other_tells Open x c is = cc
 other_tells Closing x c is = cc
 other_tells Refused x c is = cc
+other_tells Silent x c is = cc
 
 comes_tells : (role : DtlsRole) (o s : ℕ) (h : Handed) (x : Stream) (c : Content) → (comes role o s h x).told ≡ Message c → (content_of h.payload h.bytes ≡ Some c) × ((comes role o s h x).taken ≡ true)
 comes_tells role o s h x c is = go (h.payload == DCEP) is
@@ -176,6 +188,7 @@ not_closed role o s Open Acknowledges x is = cc
 not_closed role o s Open (Faulty w) x is = cc
 not_closed role o s Closing k x is = cc
 not_closed role o s Refused k x is = cc
+not_closed role o s Silent k x is = cc
 
 content_open : (t : State) (d : Content) (x : Stream) → (content_comes t d x).told ≡ Closed → ⊥
 content_open Unused d x is = cc
@@ -184,6 +197,7 @@ content_open Unanswered d x is = cc
 content_open Open d x is = cc
 content_open Closing d x is = cc
 content_open Refused d x is = cc
+content_open Silent d x is = cc
 
 other_open : (t : State) (x : Stream) → (other_comes t x).told ≡ Closed → ⊥
 other_open Unused x is = cc
@@ -192,6 +206,7 @@ other_open Unanswered x is = cc
 other_open Open x is = cc
 other_open Closing x is = cc
 other_open Refused x is = cc
+other_open Silent x is = cc
 
 pub comes_open : (role : DtlsRole) (o s : ℕ) (h : Handed) (x : Stream) → (comes role o s h x).told ≡ Closed → ⊥
 comes_open role o s h x is = go (said_in h) is
@@ -227,7 +242,7 @@ within v x s n p = go (cases_lt s (length x.streams))
   where
     go : (s < length x.streams) ⊎ (length x.streams ≤ s) → s < length x.streams
     go (inl lt) = lt
-    go (inr le) = absurd (let none = ap (λ (y : Stream). y.is_reset) (beyond x.streams s unused le) in let on = p.is_reset in cc)
+    go (inr le) = absurd (let none = ap (λ (y : Stream). is_reset y.resets) (beyond x.streams s unused le) in let on = p.is_reset in cc)
 
 -- ---- which event is next
 
@@ -328,14 +343,24 @@ contents_are_taken v x s c is = let r = takes_it v x s c is in record { message 
 
 -- ---- the place of a reset
 
+first_noted : (x : Stream) (count : ℕ) (b : Bool) → b ≡ false →
+    (if b then record x { again = max x.left count; resets = Two } else leaving count (record x { resets = One })) ≡ leaving count (record x { resets = One })
+first_noted x count true off = absurd (cc off)
+first_noted x count false off = refl
+
+pub again_noted : (x : Stream) (count : ℕ) (b : Bool) → b ≡ true →
+    (if b then record x { again = max x.left count; resets = Two } else leaving count (record x { resets = One })) ≡ record x { again = max x.left count; resets = Two }
+again_noted x count true on = refl
+again_noted x count false on = absurd (cc on)
+
 -- one more reset, with so many messages from before it
-pub noted_now : (v : EndView) (x : Table) (s count : ℕ) → s < length x.streams → (stream_at x s).is_reset ≡ false → HasPlace v (with_reset s count x) s (length (v.receiver.taken s) + count)
+pub noted_now : (v : EndView) (x : Table) (s count : ℕ) → s < length x.streams → is_reset (stream_at x s).resets ≡ false → HasPlace v (with_reset s count x) s (length (v.receiver.taken s) + count)
 noted_now v x s count lt off =
-    let is : stream_at (with_reset s count x) s ≡ leaving count (record (stream_at x s) { is_reset = true }) =
-    at_same x s (peer_resets count (stream_at x s)) lt ∙ ap (λ (b : Bool). if b then stream_at x s else leaving count (record (stream_at x s) { is_reset = true })) off in
-    let k = left_is count (record (stream_at x s) { is_reset = true }) in
+    let z : Stream = record (stream_at x s) { resets = One } in
+    let is : stream_at (with_reset s count x) s ≡ leaving count z = at_same x s (peer_resets count (stream_at x s)) lt ∙ first_noted (stream_at x s) count (is_reset (stream_at x s).resets) off in
+    let k = left_is count z in
     record {
-      is_reset = ap (λ (y : Stream). y.is_reset) is ∙ k.1;
+      is_reset = ap (λ (y : Stream). is_reset y.resets) is ∙ ap (λ (r : Resets). is_reset r) k.1;
       place = ap (λ (y : Stream). length (v.receiver.taken s) + y.left) is ∙ ap (λ (n : ℕ). length (v.receiver.taken s) + n) k.0;
     }
 
@@ -344,18 +369,18 @@ resets_are_noted v x s lt = (noted_now v x s (old_waiting v.receiver s) lt, seco
   where
     second : (n count : ℕ) → HasPlace v x s n → HasPlace v (with_reset s count x) s n
     second n count p =
-        let is : stream_at (with_reset s count x) s ≡ stream_at x s =
-        at_same x s (peer_resets count (stream_at x s)) lt ∙ ap (λ (b : Bool). if b then stream_at x s else leaving count (record (stream_at x s) { is_reset = true })) p.is_reset in
-        record { is_reset = ap (λ (y : Stream). y.is_reset) is ∙ p.is_reset; place = ap (λ (y : Stream). length (v.receiver.taken s) + y.left) is ∙ p.place }
+        let is : stream_at (with_reset s count x) s ≡ record (stream_at x s) { again = max (stream_at x s).left count; resets = Two } =
+        at_same x s (peer_resets count (stream_at x s)) lt ∙ again_noted (stream_at x s) count (is_reset (stream_at x s).resets) p.is_reset in
+        record { is_reset = ap (λ (y : Stream). is_reset y.resets) is; place = ap (λ (y : Stream). length (v.receiver.taken s) + y.left) is ∙ p.place }
 
 module _ (v : EndView) (x : Table) (s n : ℕ) (p : HasPlace v x s n) where
   abbrev KeepsPlace : Reported → Type 0
   KeepsPlace r = (r.report ≡ Some (record { stream = s; told = Closed }) → ⊥) → HasPlace r.view r.table s n
 
   -- a stream with this mark
-  with_mark : (view : EndView) (table : Table) (y : Stream) (taken : ℕ) → stream_at table s ≡ y → y.is_reset ≡ true → length (view.receiver.taken s) ≡ taken → taken + y.left ≡ n → HasPlace view table s n
+  with_mark : (view : EndView) (table : Table) (y : Stream) (taken : ℕ) → stream_at table s ≡ y → is_reset y.resets ≡ true → length (view.receiver.taken s) ≡ taken → taken + y.left ≡ n → HasPlace view table s n
   with_mark view table y taken is on count sum = record {
-    is_reset = ap (λ (z : Stream). z.is_reset) is ∙ on;
+    is_reset = ap (λ (z : Stream). is_reset z.resets) is ∙ on;
     place = ap (λ (z : Stream). length (view.receiver.taken s) + z.left) is ∙ ap (λ (k : ℕ). k + y.left) count ∙ sum;
   }
 
@@ -365,9 +390,13 @@ module _ (v : EndView) (x : Table) (s n : ℕ) (p : HasPlace v x s n) where
   elsewhere_closed : (i : ℕ) → KeepsPlace (reports_closed i v x)
   elsewhere_closed i unclosed = go (same_or_not i s)
     where
-      go : (i ≡ s) ⊎ (s ≡ i → ⊥) → HasPlace v (with_none x i) s n
+      by_end : (s ≡ i → ⊥) → (b : Bool) → HasPlace v (if b then with_none x i else with_left_over x i) s n
+      by_end ne true = untouched v (with_none x i) (at_other x i s unused ne) refl
+      by_end ne false = untouched v (with_left_over x i) (at_other x i s (left_over (stream_at x i)) ne) refl
+
+      go : (i ≡ s) ⊎ (s ≡ i → ⊥) → HasPlace v (with_next v x i) s n
       go (inl e) = absurd (unclosed (ap (λ (k : ℕ). Some (record { stream = k; told = Closed })) e))
-      go (inr ne) = untouched v (with_none x i) (at_other x i s unused ne) refl
+      go (inr ne) = by_end ne (is_some (ended_of v.phase))
 
   taken_at : (i : ℕ) (h : Handed) → (s ≡ i → ⊥) → length (at v.receiver.taken i (v.receiver.taken i ++ h ∷ []) s) ≡ length (v.receiver.taken s)
   taken_at i h ne = go (s == i) refl
@@ -411,20 +440,21 @@ module _ (v : EndView) (x : Table) (s n : ℕ) (p : HasPlace v x s n) where
       go : (b : Bool) → (after s h).taken ≡ b → KeepsPlace (if b then reports_taken s h rest (after s h) v x else reports_waiting s (after s h) v x)
       go true taken unclosed =
           let y = (after s h).stream in
-          let reset : y.is_reset ≡ true = keeps.is_reset ∙ p.is_reset in
-          let marked : heard (after s h) ≡ leaving (y.left - 1) y = rw (taken, reset) refl in
-          let k = left_is (y.left - 1) y in
+          let reset : is_reset y.resets ≡ true = ap (λ (r : Resets). is_reset r) keeps.resets ∙ p.is_reset in
+          let z : Stream = record y { again = y.again - 1 } in
+          let marked : heard (after s h) ≡ leaving (y.left - 1) z = rw (taken, reset) refl in
+          let k = left_is (y.left - 1) z in
           let some = some_left on in
           let left = keeps.left in
           let sum = p.place in
           with_mark (record v { receiver = first_taken v.receiver s h rest }) (record (with_stream x s (heard (after s h))) { next = Rattle.sctp_channels.specs.Events.one_on s })
-          (leaving (y.left - 1) y) (suc (length (v.receiver.taken s))) (at_same x s (heard (after s h)) lt ∙ marked) (k.1 ∙ reset) (own_taken h)
+          (leaving (y.left - 1) z) (suc (length (v.receiver.taken s))) (at_same x s (heard (after s h)) lt ∙ marked) (ap (λ (r : Resets). is_reset r) k.1 ∙ reset) (own_taken h)
           (let l = k.0 in omega (arith, l, left, some, sum))
       go false waits unclosed =
           let marked : heard (after s h) ≡ (after s h).stream = rw waits refl in
           let left = keeps.left in
           let sum = p.place in
-          with_mark v (with_stream x s (heard (after s h))) (after s h).stream (length (v.receiver.taken s)) (at_same x s (heard (after s h)) lt ∙ marked) (keeps.is_reset ∙ p.is_reset) refl
+          with_mark v (with_stream x s (heard (after s h))) (after s h).stream (length (v.receiver.taken s)) (at_same x s (heard (after s h)) lt ∙ marked) (ap (λ (r : Resets). is_reset r) keeps.resets ∙ p.is_reset) refl
           (omega (arith, left, sum))
 
   there : (i : ℕ) → (s ≡ i → ⊥) → (h : Handed) (rest : List Handed) → KeepsPlace (reports_after i h rest (after i h) v x)
@@ -455,10 +485,10 @@ module _ (v : EndView) (x : Table) (s : ℕ) where
       let e : i ≡ s = (one_report i s Closed Closed is).0 in
       let y = stream_at x i in
       let drained = (and_parts (is_drained y) (is_asked y.due && not (is_resetting_out v i)) (and_parts (is_closing y.state) (is_drained y && (is_asked y.due && not (is_resetting_out v i))) on).1).0 in
-      let parts = and_parts y.is_reset (y.left == 0) drained in
+      let parts = and_parts (is_reset y.resets) (y.left == 0) drained in
       let zero_left : y.left ≡ 0 = let z = parts.1 in grind (arith, nat_tests, z) in
       record {
-        is_reset = subst (λ (k : ℕ). (stream_at x k).is_reset ≡ true) e parts.0;
+        is_reset = subst (λ (k : ℕ). is_reset (stream_at x k).resets ≡ true) e parts.0;
         place = (let left : (stream_at x s).left ≡ 0 = subst (λ (k : ℕ). (stream_at x k).left ≡ 0) e zero_left in omega (arith, left));
       }
 

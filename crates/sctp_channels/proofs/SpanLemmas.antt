@@ -1,12 +1,12 @@
 -- Ranges of streams outside of which there is nothing to be done.
-use Rattle.std.proofs.Common.{◌≡◌, ◌⊎◌, ℕ, zero, suc, ◌+◌, ◌<◌, not, true, false, List, [], length, inl, inr, subst, ◌∙◌, sym, refl, arith}
+use Rattle.std.proofs.Common.{◌≡◌, ◌⊎◌, ℕ, zero, suc, ◌+◌, ◌<◌, true, false, List, [], length, inl, inr, subst, ◌∙◌, sym, refl, arith}
 use Rattle.std.specs.Prelude.{slice_index_or, slice_set, replicate}
-use Rattle.std.proofs.lemmas.Bool.{cases_eq, or_cases, or_left, or_right, not_from_false}
+use Rattle.std.proofs.lemmas.Bool.{cases_eq, or_cases, or_left, or_right}
 use lib.Seq.{get_or-set_same, get_or-set_other}
 use Rattle.sctp_channels.specs.declared.span.Span.{Span}
 use Rattle.sctp_channels.specs.declared.stream.Stream.{Stream}
 use Rattle.sctp_channels.specs.declared.threshold.Threshold.{Threshold}
-use Rattle.sctp_channels.specs.Streams.{unused, is_unused, no_threshold}
+use Rattle.sctp_channels.specs.Streams.{unused, has_channel, no_threshold}
 use Rattle.sctp_channels.specs.inner.Spans.{IsWithin, is_restless, is_busy, AreBusyWithin, AreUsedWithin}
 
 abbrev stream_in : List Stream → ℕ → Stream
@@ -33,15 +33,15 @@ busy_set r q xs ts n y less all wider new s busy = go (cases_eq n s)
     go (inr ne) = wider s (all s (subst (λ (z : Stream). is_busy z (threshold_in ts s) ≡ true) (get_or-set_other xs n s y unused (λ e. ne (sym e))) busy))
 
 pub used_set : (r q : Span) (xs : List Stream) (n : ℕ) (y : Stream) → n < length xs → AreUsedWithin r xs → ((i : ℕ) → IsWithin r i → IsWithin q i)
-    → (not (is_unused y.state) ≡ true → IsWithin q n) → AreUsedWithin q (slice_set xs n y)
+    → (has_channel y.state ≡ true → IsWithin q n) → AreUsedWithin q (slice_set xs n y)
 used_set r q xs n y less all wider new s used = go (cases_eq n s)
   where
-    here : is_unused (stream_in (slice_set xs n y) n).state ≡ false → IsWithin q n
-    here off = new (not_from_false (is_unused y.state) (subst (λ (z : Stream). is_unused z.state ≡ false) (get_or-set_same xs n y unused less) off))
+    here : has_channel (stream_in (slice_set xs n y) n).state ≡ true → IsWithin q n
+    here on = new (subst (λ (z : Stream). has_channel z.state ≡ true) (get_or-set_same xs n y unused less) on)
 
     go : (n ≡ s) ⊎ (n ≡ s → ⊥) → IsWithin q s
-    go (inl e) = subst (λ (k : ℕ). IsWithin q k) e (here (subst (λ (k : ℕ). is_unused (stream_in (slice_set xs n y) k).state ≡ false) (sym e) used))
-    go (inr ne) = wider s (all s (subst (λ (z : Stream). is_unused z.state ≡ false) (get_or-set_other xs n s y unused (λ e. ne (sym e))) used))
+    go (inl e) = subst (λ (k : ℕ). IsWithin q k) e (here (subst (λ (k : ℕ). has_channel (stream_in (slice_set xs n y) k).state ≡ true) (sym e) used))
+    go (inr ne) = wider s (all s (subst (λ (z : Stream). has_channel z.state ≡ true) (get_or-set_other xs n s y unused (λ e. ne (sym e))) used))
 
 -- ---- a threshold is changed
 
@@ -82,7 +82,7 @@ pub none_busy : (r : Span) (n : ℕ) → AreBusyWithin r (replicate n unused) []
 none_busy r n s busy = absurd (let off = subst (λ (z : Stream). is_busy z (threshold_in [] s) ≡ true) (unused_there n s) busy in let none = none_there zero s in let no = subst (λ (t : Threshold). is_busy unused t ≡ true) none off in cc no)
 
 pub none_used : (r : Span) (n : ℕ) → AreUsedWithin r (replicate n unused)
-none_used r n s used = absurd (let off = subst (λ (z : Stream). is_unused z.state ≡ false) (unused_there n s) used in cc off)
+none_used r n s used = absurd (let on = subst (λ (z : Stream). has_channel z.state ≡ true) (unused_there n s) used in cc on)
 
 -- ---- the range is shortened
 

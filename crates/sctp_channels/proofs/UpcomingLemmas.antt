@@ -10,7 +10,7 @@ use Rattle.sctp_dcep.specs.Content.{Content, DCEP, content_of}
 use Rattle.sctp_dcep.specs.Dcep.{Parameters, Control, Opens, Acknowledges, Faulty, control_of}
 use Rattle.sctp_channels.specs.declared.stream.Due.TheVariants.{Acknowledgement}
 use Rattle.sctp_channels.specs.declared.stream.State.{State}
-use Rattle.sctp_channels.specs.declared.stream.State.TheVariants.{Unused, Connecting, Unanswered, Open, Closing, Refused}
+use Rattle.sctp_channels.specs.declared.stream.State.TheVariants.{Unused, Connecting, Unanswered, Open, Closing, Refused, Silent}
 use Rattle.sctp_channels.specs.declared.stream.Stream.{Stream}
 use Rattle.sctp_channels.specs.declared.table.DtlsRole.{DtlsRole}
 use Rattle.sctp_channels.specs.Streams.{Table, stream_at, is_own, with_channel}
@@ -62,6 +62,7 @@ control_tells role n s Open Acknowledges x c is = absurd (cc)
 control_tells role n s Open (Faulty w) x c is = absurd (cc)
 control_tells role n s Closing k x c is = absurd (cc)
 control_tells role n s Refused k x c is = absurd (cc)
+control_tells role n s Silent k x c is = absurd (cc)
 
 other_tells : (t : State) (x : Stream) (c : Content) → (other_comes t x).told ≡ Message c → ⊥
 other_tells Unused x c is = absurd (cc)
@@ -70,6 +71,7 @@ other_tells Unanswered x c is = absurd (cc)
 other_tells Open x c is = absurd (cc)
 other_tells Closing x c is = absurd (cc)
 other_tells Refused x c is = absurd (cc)
+other_tells Silent x c is = absurd (cc)
 
 content_tells : (t : State) (p : ℕ) (bytes : List ℕ) (k : Content) (x : Stream) (c : Content) → content_of p bytes ≡ Some k → None ≡ content_told t p bytes → (content_comes t k x).told ≡ Message c → ⊥
 content_tells Unused p bytes k x c there none is = absurd (cc)
@@ -78,6 +80,7 @@ content_tells Unanswered p bytes k x c there none is = absurd (cc)
 content_tells Open p bytes k x c there none is = absurd (cc)
 content_tells Closing p bytes k x c there none is = absurd (cc)
 content_tells Refused p bytes k x c there none is = absurd (cc)
+content_tells Silent p bytes k x c there none is = absurd (cc)
 
 pub untold : (role : DtlsRole) (n s : ℕ) (h : Handed) (x : Stream) (c : Content) → None ≡ content_told x.state h.payload h.bytes → (comes role n s h x).told ≡ Message c → ⊥
 untold role n s h x c none = go (h.payload == DCEP) (content_of h.payload h.bytes) refl

@@ -11,7 +11,7 @@ use Rattle.sctp_channels.specs.declared.fault.OpenFault.TheVariants.{TooLong, Ou
 use Rattle.sctp_channels.specs.declared.stream.ChannelType.{ChannelType}
 use Rattle.sctp_channels.specs.declared.stream.ChannelType.TheVariants as channel
 use Rattle.sctp_channels.specs.declared.stream.State.{State}
-use Rattle.sctp_channels.specs.declared.stream.State.TheVariants.{Unused, Connecting, Unanswered, Open, Closing, Refused}
+use Rattle.sctp_channels.specs.declared.stream.State.TheVariants.{Unused, Connecting, Unanswered, Open, Closing, Refused, Silent}
 use Rattle.sctp_channels.specs.declared.stream.Stream.{Stream}
 use Rattle.sctp_channels.specs.Streams.{is_free, is_ordered, Table, stream_at, is_own, first_from}
 
@@ -51,6 +51,7 @@ goes_ordered Unanswered kind = is_ordered kind
 goes_ordered Open kind = is_ordered kind
 goes_ordered Closing kind = is_ordered kind
 goes_ordered Refused kind = is_ordered kind
+goes_ordered Silent kind = is_ordered kind
 
 -- a content, sent at this time on the channel of a stream
 abbrev pub content_call : (stream : ℕ) → Stream → (now : ℕ) → Content → Call

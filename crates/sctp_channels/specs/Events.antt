@@ -5,12 +5,12 @@ use Rattle.sctp_model.specs.receiver.SackMade.{first_taken}
 use Rattle.sctp_model.specs.receiver.ResetTaken.{old_waiting}
 use Rattle.sctp_model.specs.end.EndView.{EndView, ended_of}
 use Rattle.sctp_model.specs.end.UserCalls.{reset_there, told_leaves}
-use Rattle.sctp_channels.specs.Streams.{is_unused, is_drained, Table, stream_at, with_stream, with_none, first_from}
-use Rattle.sctp_channels.specs.Told.{Closed, BufferedAmountLow, Report}
-use Rattle.sctp_channels.specs.Coming.{After, comes, heard, peer_resets}
+use Rattle.sctp_channels.specs.Streams.{has_channel, is_drained, no_threshold, Table, stream_at, with_stream, with_threshold, with_none, first_from}
+use Rattle.sctp_channels.specs.Told.{Told, Incoming, Opened, Message, Closed, BufferedAmountLow, Refuses, Ignores, Report}
+use Rattle.sctp_channels.specs.Coming.{After, comes, heard, peer_resets, left_over}
 use Rattle.sctp_channels.specs.Buffered.{is_low, with_low_told}
 use Rattle.sctp_channels.specs.Calling.{outgoing}
-use Rattle.sctp_channels.specs.Settling.{Standing, is_closed}
+use Rattle.sctp_channels.specs.Settling.{Standing, is_closed, is_gone}
 
 -- what is told, if anything is, and the endpoint and streams after it
 pub record Reported : Type 0 where
@@ -22,9 +22,17 @@ pub record Reported : Type 0 where
 abbrev pub quiet : EndView → Table → Reported
 quiet v x = record { report = None; view = v; table = x }
 
--- a channel is closed, and its stream free
+-- a stream that is closed is free, or the peer has reset it again
+abbrev pub with_left_over : Table → (stream : ℕ) → Table
+with_left_over x s = with_threshold (with_stream x s (left_over (stream_at x s))) s no_threshold
+
+-- Once the association is over no further reset counts.
+abbrev pub with_next : EndView → Table → (stream : ℕ) → Table
+with_next v x s = if is_some (ended_of v.phase) then with_none x s else with_left_over x s
+
+-- a channel is closed
 abbrev pub reports_closed : (stream : ℕ) → EndView → Table → Reported
-reports_closed s v x = record { report = Some (record { stream = s; told = Closed }); view = v; table = with_none x s }
+reports_closed s v x = record { report = Some (record { stream = s; told = Closed }); view = v; table = with_next v x s }
 
 -- the buffered amount of a channel is low
 abbrev pub reports_low : (stream : ℕ) → EndView → Table → Reported
@@ -83,9 +91,9 @@ turn v x = or_else (readable_from v x x.next) (readable_from v x 0)
 
 -- ---- the association is over
 
--- a channel, or what is left of one
+-- it has a channel
 abbrev pub is_used : Table → (stream : ℕ) → Bool
-is_used x s = not (is_unused (stream_at x s).state)
+is_used x s = has_channel (stream_at x s).state
 
 -- each channel is closed by it
 abbrev pub reports_end : Option ℕ → EndView → Table → Reported
@@ -138,3 +146,49 @@ resets_noted (suc n) v x =
 -- all of them
 abbrev pub all_noted : EndView → Table → Standing
 all_noted v x = resets_noted v.receiver.streams v x
+
+-- ---- streams that are closed without a channel
+
+-- one of them is free again, without a report
+abbrev pub swept_at : EndView → Table → (stream : ℕ) → Table
+swept_at v x s = if is_gone v x s then with_next v x s else x
+
+-- so many streams, from 0 on
+abbrev pub swept_below : (many : ℕ) → EndView → Table → Table
+swept_below zero v x = x
+swept_below (suc n) v x = swept_at v (swept_below n v x) n
+
+-- all
+abbrev pub swept : EndView → Table → Table
+swept v x = swept_below (length x.streams) v x
+
+-- ---- and when they are
+
+-- After a packet: resets of the peer are noted, and streams that are closed without a channel are free.
+abbrev pub noted_and_swept : EndView → Table → Standing
+noted_and_swept v x =
+    let t = all_noted v x in
+    record { view = t.view; table = swept t.view t.table }
+
+-- A message that is ignored may be the last of those before the peer's reset: then the stream may be closed by that, and free.
+abbrev pub freed_by : Told → (stream : ℕ) → EndView → Table → Table
+freed_by (Incoming p) s v x = x
+freed_by Opened s v x = x
+freed_by (Message c) s v x = x
+freed_by Closed s v x = x
+freed_by BufferedAmountLow s v x = x
+freed_by (Refuses why) s v x = x
+freed_by (Ignores why) s v x = swept_at v x s
+
+-- by what was told
+abbrev pub freed_behind : Option Report → EndView → Table → Table
+freed_behind None v x = x
+freed_behind (Some r) v x = freed_by r.told r.stream v x
+
+-- an event, and the stream free behind it
+abbrev pub with_freed : Reported → Reported
+with_freed r = record { report = r.report; view = r.view; table = freed_behind r.report r.view r.table }
+
+-- THE NEXT EVENT, with what it leaves
+abbrev pub next_told : EndView → Table → Reported
+next_told v x = with_freed (next_report v x)

@@ -30,7 +30,7 @@ use Rattle.sctp_channels.specs.declared.fault.ThresholdFault.{ThresholdFault}
 use Rattle.sctp_channels.specs.declared.table.DtlsRole.{DtlsRole}
 use Rattle.sctp_channels.specs.Streams.{Table, fresh_table}
 use Rattle.sctp_channels.specs.Told.{Report}
-use Rattle.sctp_channels.specs.Events.{next_report}
+use Rattle.sctp_channels.specs.Events.{next_told}
 use Rattle.sctp_channels.specs.Meanings.{event_meaning}
 use Rattle.sctp_channels.specs.ChannelsStand.{ChannelsStand}
 use Rattle.sctp_channels.specs.Answers.{Opens, OpensNegotiated, Sends, Closes, SetsThreshold}
@@ -74,7 +74,7 @@ reports_of (Some e) = event_meaning e ∷ []
 
 -- `next_event`, if resets are noted
 abbrev pub EventsAreMade : Type 0
-EventsAreMade = (y : Side) (w : World) (x : Table) (e : Option declared.Event) (c : Channels) → IsAllNoted (end_of w y) → Tells (next_report (end_of w y) x) e c → IsMade y w x [] (reports_of e) [] c
+EventsAreMade = (y : Side) (w : World) (x : Table) (e : Option declared.Event) (c : Channels) → IsAllNoted (end_of w y) → Tells (next_told (end_of w y) x) e c → IsMade y w x [] (reports_of e) [] c
 
 -- ---- packets
 

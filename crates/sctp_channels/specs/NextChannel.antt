@@ -11,7 +11,7 @@ use Rattle.sctp_model.specs.world.Premises.{FreshAndUnforged}
 use Rattle.sctp_outcomes.specs.Users.{Sent, sent, exchange, taken, Match}
 use Rattle.sctp_outcomes.specs.Parted.{ResetAfter, IsTold, AreMatched}
 use Rattle.sctp_dcep.specs.Content.{Content, content_of}
-use Rattle.sctp_channels.specs.Streams.{Table, stream_at}
+use Rattle.sctp_channels.specs.Streams.{is_reset, Table, stream_at}
 use Rattle.sctp_channels.specs.Told.{Closed}
 use Rattle.sctp_channels.specs.Events.{next_report, with_reset}
 use Rattle.sctp_channels.specs.Promise.{HasPlace, IsOfContent, IsOfChannels}
@@ -22,7 +22,7 @@ use Rattle.sctp_channels.specs.Promise.{HasPlace, IsOfContent, IsOfChannels}
 pub record IsBeside (s : ℕ) (v : EndView) (x : Table) (w : EndView) (z : Table) : Type 0 where
   pub taken : w.receiver.taken s ≡ v.receiver.taken s
   pub left : (stream_at z s).left ≡ (stream_at x s).left
-  pub is_reset : (stream_at z s).is_reset ≡ (stream_at x s).is_reset
+  pub is_reset : is_reset (stream_at z s).resets ≡ is_reset (stream_at x s).resets
 
 -- The user is told events, but not that the channel of the stream is closed; resets are noted; and other calls are made.
 pub data Course (s : ℕ) : EndView → Table → EndView → Table → Type 0 where
@@ -44,7 +44,7 @@ pub record IsClosed (s : Setup) (x : Side) (n : ℕ) (es : List Event) (os : Lis
   pub passes_then : PassesThrough (start s) t.past t.answers worlds_then
   pub table_then : Table
   pub there : n < length table_then.streams
-  pub unreset : (stream_at table_then n).is_reset ≡ false
+  pub unreset : is_reset (stream_at table_then n).resets ≡ false
   pub past : List Event
   pub answers : List (Option Outcome)
   pub worlds : List World

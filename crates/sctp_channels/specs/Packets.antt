@@ -14,12 +14,12 @@ use Rattle.sctp_endpoint.specs.declared.transmit.Sent.{Sent}
 use Rattle.sctp_channels.specs.declared.channels.Channels.{Channels}
 use Rattle.sctp_channels.specs.Streams.{Table}
 use Rattle.sctp_channels.specs.Settling.{settled_below, settled_all}
-use Rattle.sctp_channels.specs.Events.{all_noted}
+use Rattle.sctp_channels.specs.Events.{noted_and_swept}
 use Rattle.sctp_channels.specs.ChannelsStand.{endpoint_of, ChannelsStand}
 
--- the endpoint, to which this was done, and its streams, on which each reset of the peer that wasn't told is noted
+-- the endpoint, to which this was done, and its streams, on which each reset of the peer that wasn't told is noted; those that are closed without a channel are free
 abbrev pub StandNoted : EndView → Table → Channels → Type 0
-StandNoted t x c = ChannelsStand c (all_noted t x).view (all_noted t x).table
+StandNoted t x c = ChannelsStand c (noted_and_swept t x).view (noted_and_swept t x).table
 
 -- The endpoint received the packet as it does without channels, all of it or the chunks before a failed allocation; then each reset of the peer was noted.
 abbrev pub Hears : EndView → Table → (now : ℕ) → Draw → Option Packet → Result Verdict NoMemory → Channels → Type 0

@@ -1,5 +1,5 @@
 -- What is promised of what a user is told, and how a reset of the peer's parts the channels of a stream (RFC 8831, 6.4 to 6.7).
-use Rattle.std.specs.Prelude.{◌≡◌, ◌⊎◌, ℕ, ◌+◌, ◌<◌, true, false, List, ◌∷◌, length, Option, Some, None}
+use Rattle.std.specs.Prelude.{◌≡◌, ◌⊎◌, ℕ, ◌+◌, ◌<◌, ◌≤◌, true, false, List, ◌∷◌, length, Option, Some, None}
 use Rattle.sctp_model.specs.numbers.Lists.{Has}
 use Rattle.sctp_model.specs.receiver.ReceiverView.{Handed}
 use Rattle.sctp_model.specs.receiver.ResetTaken.{old_waiting}
@@ -15,7 +15,7 @@ use Rattle.sctp_model.specs.world.Premises.{FreshAndUnforged}
 use Rattle.sctp_outcomes.specs.Users.{Sent, sent, exchange, Match}
 use Rattle.sctp_outcomes.specs.Parted.{IsTold, AreMatched, AreParted}
 use Rattle.sctp_dcep.specs.Content.{Content, DCEP, id_of, carried, content_of}
-use Rattle.sctp_channels.specs.Streams.{Table, stream_at}
+use Rattle.sctp_channels.specs.Streams.{is_reset, is_reset_again, Table, stream_at}
 use Rattle.sctp_channels.specs.Told.{Message, Closed}
 use Rattle.sctp_channels.specs.Events.{next_report, with_reset}
 
@@ -41,13 +41,13 @@ place v x s = length (v.receiver.taken s) + (stream_at x s).left
 
 -- The peer has reset the stream, with its place there.
 pub record HasPlace (v : EndView) (x : Table) (s n : ℕ) : Type 0 where
-  pub is_reset : (stream_at x s).is_reset ≡ true
+  pub is_reset : is_reset (stream_at x s).resets ≡ true
   pub place : place v x s ≡ n
 
--- Where none is noted, a reset is, with all that is taken and all that waits from before it; where one is, no second.
+-- Where none is noted, a reset is, with all that is taken and all that waits from before it; where one is, a further one leaves its place.
 abbrev pub ResetsAreNoted : Type 0
 ResetsAreNoted = (v : EndView) (x : Table) (s : ℕ) → s < length x.streams →
-    ((stream_at x s).is_reset ≡ false → HasPlace v (with_reset s (old_waiting v.receiver s) x) s (length (v.receiver.taken s) + old_waiting v.receiver s))
+    (is_reset (stream_at x s).resets ≡ false → HasPlace v (with_reset s (old_waiting v.receiver s) x) s (length (v.receiver.taken s) + old_waiting v.receiver s))
     × ((n count : ℕ) → HasPlace v x s n → HasPlace v (with_reset s count x) s n)
 
 -- Whatever is told next, but that the channel is closed, the place stays.
@@ -59,6 +59,24 @@ PlacesAreKept = (v : EndView) (x : Table) (s n : ℕ) → HasPlace v x s n → (
 abbrev pub ClosedAtThePlace : Type 0
 ClosedAtThePlace = (v : EndView) (x : Table) (s : ℕ) → ended_of v.phase ≡ None → (next_report v x).report ≡ Some (record { stream = s; told = Closed }) →
     HasPlace v x s (length (v.receiver.taken s))
+
+-- ---- the place of a further reset
+
+-- The peer has reset the stream again, with its place there, which isn't before the first one's.
+pub record HasNextPlace (v : EndView) (x : Table) (s n : ℕ) : Type 0 where
+  pub is_reset_again : is_reset_again (stream_at x s).resets ≡ true
+  pub place : length (v.receiver.taken s) + (stream_at x s).again ≡ n
+  pub behind : (stream_at x s).left ≤ (stream_at x s).again
+
+-- A further reset is noted with its place; whatever is told next, but that the channel is closed, the place stays; and once that is told, while the association lives,
+-- it is the place of the stream's next channel (RFC 8831, 6.7).
+pub record SecondResetsAreKept : Type 0 where
+  pub noted : (v : EndView) (x : Table) (s n count : ℕ) → HasPlace v x s n → n ≤ length (v.receiver.taken s) + count →
+      HasNextPlace v (with_reset s count x) s (length (v.receiver.taken s) + count)
+  pub kept : (v : EndView) (x : Table) (s n : ℕ) → HasNextPlace v x s n → ((next_report v x).report ≡ Some (record { stream = s; told = Closed }) → ⊥) →
+      HasNextPlace (next_report v x).view (next_report v x).table s n
+  pub next : (v : EndView) (x : Table) (s n : ℕ) → HasNextPlace v x s n → ended_of v.phase ≡ None → (next_report v x).report ≡ Some (record { stream = s; told = Closed }) →
+      HasPlace (next_report v x).view (next_report v x).table s n
 
 -- ---- what is told was sent
 

@@ -8,7 +8,7 @@ use Rattle.sctp_channels.specs.declared.stream.Due.TheVariants.{Nothing, Acknowl
 use Rattle.sctp_channels.specs.declared.stream.State.{State}
 use Rattle.sctp_channels.specs.declared.stream.State.TheVariants as state
 use Rattle.sctp_channels.specs.declared.stream.Stream.{Stream}
-use Rattle.sctp_channels.specs.Streams.{Table, stream_at, is_drained}
+use Rattle.sctp_channels.specs.Streams.{is_silent, is_drained, Table, stream_at}
 use Rattle.sctp_channels.specs.Calling.{ack_call}
 
 -- ---- one stream
@@ -84,6 +84,7 @@ is_closing state.Unanswered = false
 is_closing state.Open = false
 is_closing state.Closing = true
 is_closing state.Refused = false
+is_closing state.Silent = false
 
 -- its reset was asked for, as far as that was due
 abbrev pub is_asked : Due → Bool
@@ -100,3 +101,9 @@ abbrev pub is_closed : EndView → Table → (stream : ℕ) → Bool
 is_closed v x s =
     let y = stream_at x s in
     is_closing y.state && (is_drained y && (is_asked y.due && not (is_resetting_out v s)))
+
+-- THE STREAM IS CLOSED, by the same, without a channel that was reported.
+abbrev pub is_gone : EndView → Table → (stream : ℕ) → Bool
+is_gone v x s =
+    let y = stream_at x s in
+    is_silent y.state && (is_drained y && (is_asked y.due && not (is_resetting_out v s)))

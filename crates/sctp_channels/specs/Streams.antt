@@ -4,8 +4,10 @@ use Rattle.sctp_dcep.specs.Dcep.{Reliability, Reliable, MaxRetransmits, MaxPacke
 use Rattle.sctp_channels.specs.declared.stream.ChannelType.{ChannelType}
 use Rattle.sctp_channels.specs.declared.stream.ChannelType.TheVariants as channel
 use Rattle.sctp_channels.specs.declared.stream.Due.TheVariants.{Nothing}
+use Rattle.sctp_channels.specs.declared.stream.Resets.{Resets}
+use Rattle.sctp_channels.specs.declared.stream.Resets.TheVariants.{Zero, One, Two}
 use Rattle.sctp_channels.specs.declared.stream.State.{State}
-use Rattle.sctp_channels.specs.declared.stream.State.TheVariants.{Unused, Connecting, Unanswered, Open, Closing, Refused}
+use Rattle.sctp_channels.specs.declared.stream.State.TheVariants.{Unused, Connecting, Unanswered, Open, Closing, Refused, Silent}
 use Rattle.sctp_channels.specs.declared.stream.Stream.{Stream}
 use Rattle.sctp_channels.specs.declared.table.DtlsRole.{DtlsRole}
 use Rattle.sctp_channels.specs.declared.table.DtlsRole.TheVariants.{Client, Server}
@@ -15,7 +17,7 @@ use Rattle.sctp_channels.specs.declared.threshold.Threshold.{Threshold}
 
 -- there is no channel on it, and nothing of one is left
 abbrev pub unused : Stream
-unused = record { left = 0; parameter = 0; kind = channel.Reliable; state = Unused; due = Nothing; is_reset = false }
+unused = record { left = 0; again = 0; parameter = 0; kind = channel.Reliable; state = Unused; due = Nothing; resets = Zero }
 
 -- there is no channel on it
 abbrev pub is_unused : State → Bool
@@ -25,6 +27,37 @@ is_unused Unanswered = false
 is_unused Open = false
 is_unused Closing = false
 is_unused Refused = false
+is_unused Silent = false
+
+-- there is a channel on it that was opened here or reported
+abbrev pub has_channel : State → Bool
+has_channel Unused = false
+has_channel Connecting = true
+has_channel Unanswered = true
+has_channel Open = true
+has_channel Closing = true
+has_channel Refused = false
+has_channel Silent = false
+
+-- it is being closed, with such a channel or without one
+abbrev pub is_ending : State → Bool
+is_ending Unused = false
+is_ending Connecting = false
+is_ending Unanswered = false
+is_ending Open = false
+is_ending Closing = true
+is_ending Refused = false
+is_ending Silent = true
+
+-- it is being closed without a channel that was reported
+abbrev pub is_silent : State → Bool
+is_silent Unused = false
+is_silent Connecting = false
+is_silent Unanswered = false
+is_silent Open = false
+is_silent Closing = false
+is_silent Refused = false
+is_silent Silent = true
 
 -- a channel on it may be sent on: it was opened, and isn't being closed
 abbrev pub may_send : State → Bool
@@ -34,14 +67,27 @@ may_send Unanswered = true
 may_send Open = true
 may_send Closing = false
 may_send Refused = false
+may_send Silent = false
+
+-- the peer has reset it, since its last channel was closed
+abbrev pub is_reset : Resets → Bool
+is_reset Zero = false
+is_reset One = true
+is_reset Two = true
+
+-- it did so twice
+abbrev pub is_reset_again : Resets → Bool
+is_reset_again Zero = false
+is_reset_again One = false
+is_reset_again Two = true
 
 -- a channel may be opened on it: there is none, and no message of an earlier one is left
 abbrev pub is_free : Stream → Bool
-is_free x = is_unused x.state && not x.is_reset
+is_free x = is_unused x.state && not (is_reset x.resets)
 
 -- All messages of the channel that the peer has reset were taken: those that wait behind them are of the stream's next channel.
 abbrev pub is_drained : Stream → Bool
-is_drained x = x.is_reset && (x.left == 0)
+is_drained x = is_reset x.resets && (x.left == 0)
 
 -- ---- channel types (RFC 8832, 5.1)
 

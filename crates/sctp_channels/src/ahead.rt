@@ -92,7 +92,7 @@ impl Channels {
             → ChannelsStand self.new v (record (with_stream x stream (one_taken kept)) { next = one_on stream }) }
         ensures counts { counted (endpoint_of self.new) ≡ counted (endpoint_of self.old) }
     {
-        if !kept.is_reset {
+        if !kept.resets.is_reset() {
             self.table.turn_past(stream);
             return;
         }

@@ -26,7 +26,7 @@ pub struct Channels {
 #[tactic(auto, unfolding(crate::specs::ChannelsStand::ChannelsStand, crate::specs::ChannelsStand::endpoint_of, crate::specs::ChannelsStand::table_of))]
 impl Channels {
     /// No channel yet, over an endpoint whose user has neither sent nor taken anything. `role` is this side's in the DTLS handshake. Memory is
-    /// allocated from `alloc`: 16 bytes for each stream of the endpoint's configuration, of the direction that has more.
+    /// allocated from `alloc`: 24 bytes for each stream of the endpoint's configuration, of the direction that has more.
     ///
     /// # Errors
     /// `NoMemory` if an allocation failed: the endpoint is dropped.

@@ -74,7 +74,7 @@ fn open_comes(side: Side, number: u16, parameters: Parameters, stream: Stream) -
     match stream.state {
         State::Unused => begin(side, number, parameters, stream),
         State::Connecting | State::Unanswered | State::Open => ignore(Ignored::OpenAgain, stream),
-        State::Closing => ignore(Ignored::Closing, stream),
+        State::Closing | State::Silent => ignore(Ignored::Closing, stream),
         State::Refused => ignore(Ignored::Refused, stream),
     }
 }
@@ -121,7 +121,7 @@ fn ack_comes(stream: Stream) -> After
                 ..stream
             },
         ),
-        State::Closing => ignore(Ignored::Closing, stream),
+        State::Closing | State::Silent => ignore(Ignored::Closing, stream),
         State::Refused => ignore(Ignored::Refused, stream),
     }
 }
@@ -135,7 +135,7 @@ fn fault_comes(fault: ControlFault, stream: Stream) -> After
         State::Connecting | State::Unanswered | State::Open => {
             ignore(Ignored::BadControl(fault), stream)
         }
-        State::Closing => ignore(Ignored::Closing, stream),
+        State::Closing | State::Silent => ignore(Ignored::Closing, stream),
         State::Refused => ignore(Ignored::Refused, stream),
     }
 }
@@ -160,6 +160,7 @@ fn content_comes(text: bool, empty: bool, stream: Stream) -> After
             taken: true,
         },
         State::Refused => ignore(Ignored::Refused, stream),
+        State::Silent => ignore(Ignored::Closing, stream),
     }
 }
 
@@ -172,7 +173,7 @@ fn other_comes(stream: Stream) -> After
         State::Connecting | State::Unanswered | State::Open => {
             ignore(Ignored::OtherPayload, stream)
         }
-        State::Closing => ignore(Ignored::Closing, stream),
+        State::Closing | State::Silent => ignore(Ignored::Closing, stream),
         State::Refused => ignore(Ignored::Refused, stream),
     }
 }
@@ -188,13 +189,14 @@ fn ignore(why: Ignored, stream: Stream) -> After
     }
 }
 
-/// The message opens no channel, for this reason.
+/// The message opens no channel, for this reason: this side's half of the stream is reset (RFC 8832, 6).
 fn refuse(why: Refusal, stream: Stream) -> After
     ensures { (bytes : List ℕ) → after_meaning bytes result ≡ refuses (refusal_meaning why) stream }
 {
     After {
         stream: Stream {
             state: State::Refused,
+            due: Due::Reset,
             ..stream
         },
         told: Told::Refused(why),

@@ -6,7 +6,7 @@ ghost use Rattle.sctp_model.specs.end.EndView.{EndView};
 ghost use Rattle.sctp_recv.specs.HandedOf.{handed_of};
 ghost use Rattle.sctp_endpoint.specs.Counted.{counted};
 ghost use Rattle.sctp_channels.specs.Streams.{Table, stream_at, first_from};
-ghost use Rattle.sctp_channels.specs.Events.{readable_from, turn, reports_taken, reports_message, reports_over, next_report};
+ghost use Rattle.sctp_channels.specs.Events.{readable_from, turn, reports_taken, reports_message, reports_over, with_freed, next_told};
 ghost use Rattle.sctp_channels.specs.Meanings.{event_meaning};
 ghost use Rattle.sctp_channels.specs.ChannelsStand.{ChannelsStand, endpoint_of};
 ghost use Rattle.sctp_channels.specs.Telling.{Tells};
@@ -43,14 +43,13 @@ impl Channels {
     /// # Errors
     /// `NoMemory` if the allocation for a message of DCEP failed: nothing changed.
     pub fn next_event(&mut self) -> Result<Option<Event>, NoMemory>
-        ensures told { (v : EndView) (x : Table) → ChannelsStand self.old v x → IfOk result (λ event. Tells (next_report v x) event self.new) }
+        ensures told { (v : EndView) (x : Table) → ChannelsStand self.old v x → IfOk result (λ event. Tells (next_told v x) event self.new) }
         ensures refused { (v : EndView) (x : Table) → ChannelsStand self.old v x → OnErr result (ChannelsStand self.new v x) }
         ensures counts { counted (endpoint_of self.new) ≡ counted (endpoint_of self.old) }
     {
         match self.ahead() {
             Ahead::Closed { stream } => {
-                self.is_calm = false;
-                self.table.free(stream);
+                self.leave(stream);
                 Ok(Some(Event::Closed { stream }))
             }
             Ahead::Low { stream } => {
@@ -125,7 +124,7 @@ impl Channels {
     /// `NoMemory` if an allocation failed: nothing changed.
     fn hear(&mut self, stream: u16) -> Result<Option<Event>, NoMemory>
         ensures told { (v : EndView) (x : Table) → ChannelsStand self.old v x
-            → IfOk result (λ event. Tells (reports_message stream (v.receiver.waiting stream) v x) event self.new) }
+            → IfOk result (λ event. Tells (with_freed (reports_message stream (v.receiver.waiting stream) v x)) event self.new) }
         ensures refused { (v : EndView) (x : Table) → ChannelsStand self.old v x → OnErr result (ChannelsStand self.new v x) }
         ensures counts { counted (endpoint_of self.new) ≡ counted (endpoint_of self.old) }
     {
@@ -150,6 +149,7 @@ impl Channels {
         let message = self.endpoint.take(stream);
         self.table.set(stream, after.stream.one_taken());
         self.table.turn_past(stream);
+        self.free_behind(stream, &after.told);
         Ok(Some(event(stream, after.told, message)))
     }
 
@@ -175,7 +175,7 @@ impl Channels {
         }
         self.is_calm = false;
         let stream = self.table.first_used()?;
-        self.table.free(stream);
+        self.leave(stream);
         Some(Event::Closed { stream })
     }
 }

@@ -4,7 +4,7 @@
 
 ghost use Rattle.sctp_channels.specs.Driven.{ChannelsAreFaithful, ResetsAreAllNoted};
 ghost use Rattle.sctp_channels.specs.NextChannel.{CoursesKeepPlaces, NextChannelsAreNew};
-ghost use Rattle.sctp_channels.specs.Promise.{ChannelsSayWhatWasSent, ClosedAtThePlace, ContentsAreTaken, PlacesAreKept, ResetsAreNoted};
+ghost use Rattle.sctp_channels.specs.Promise.{ChannelsSayWhatWasSent, ClosedAtThePlace, ContentsAreTaken, PlacesAreKept, ResetsAreNoted, SecondResetsAreKept};
 
 // law
 /// A content that is reported is in the message that waited first on the channel's stream, and that message is taken from the endpoint (RFC 8831, 6.6).
@@ -13,12 +13,19 @@ pub fn contents_are_taken()
 {}
 
 // law
-/// A reset of the peer's is noted with its place: how many messages of the stream were taken and wait that were delivered before it. A second one isn't noted before
-/// the channel is closed. Until that the place stays: each message of the stream that is taken is before it (RFC 8831, 6.7).
+/// A reset of the peer's is noted with its place: how many messages of the stream were taken and wait that were delivered before it. A second one is kept for the
+/// stream's next channel. Until this one is closed the place stays: each message of the stream that is taken is before it (RFC 8831, 6.7).
 pub fn resets_are_noted()
     ensures noted { ResetsAreNoted }
     ensures kept { PlacesAreKept }
     ensures course { CoursesKeepPlaces }
+{}
+
+// law
+/// A second reset of the peer's is noted with its place, too, which stays until the channel is reported closed; then, while the association lives, it is the place of the
+/// stream's next channel (RFC 8831, 6.7).
+pub fn second_resets_are_kept()
+    ensures { SecondResetsAreKept }
 {}
 
 // law

@@ -9,8 +9,7 @@ ghost use Rattle.sctp_endpoint.specs.Handled.{IsRead, IsAnsweredWithin};
 ghost use Rattle.sctp_endpoint.specs.Transmitted.{TellsFew};
 ghost use Rattle.sctp_channels.specs.Settling.{settled_all};
 ghost use Rattle.sctp_channels.specs.Streams.{Table};
-ghost use Rattle.sctp_channels.specs.Events.{all_noted};
-ghost use Rattle.sctp_channels.specs.Packets.{Hears, Transmit};
+ghost use Rattle.sctp_channels.specs.Packets.{Hears, StandNoted, Transmit};
 ghost use Rattle.sctp_channels.specs.ChannelsStand.{ChannelsStand, endpoint_of};
 
 use crate::channels::Channels;
@@ -20,7 +19,7 @@ use sctp_values::NoMemory;
 #[tactic(auto, unfolding(crate::specs::ChannelsStand::ChannelsStand, crate::specs::ChannelsStand::endpoint_of, crate::specs::ChannelsStand::table_of))]
 impl Channels {
     /// Handles a received packet, as `Endpoint::handle_packet` does; then each reset of a stream by the peer is noted (RFC 6525, 5.2.2), also after an
-    /// allocation failure. Afterwards call `next_event` until it returns None, and `poll_transmit`.
+    /// allocation failure, and streams that are closed without a channel that was reported are free. Afterwards call `next_event` until it returns None, and `poll_transmit`.
     ///
     /// # Errors
     /// `NoMemory` if an allocation failed: only the chunks before the one that needed it took effect, so the packet may be passed in again.
@@ -35,21 +34,23 @@ impl Channels {
         self.noted(heard)
     }
 
-    /// Notes each reset of the peer that wasn't reported, and returns what was said of the packet. `Taken` has a way of its own, so that nothing of a
+    /// Notes each reset of the peer that wasn't reported, frees streams that are closed without a channel, and returns what was said of the packet. `Taken` has a way of its own, so that nothing of a
     /// verdict has to be kept meanwhile.
     #[inline(always)]
     fn noted(&mut self, heard: Result<Verdict, NoMemory>) -> Result<Verdict, NoMemory>
         ensures same { result ≡ heard }
-        ensures noted { (v : EndView) (x : Table) → ChannelsStand self.old v x → ChannelsStand self.new (all_noted v x).view (all_noted v x).table }
+        ensures noted { (v : EndView) (x : Table) → ChannelsStand self.old v x → StandNoted v x self.new }
         ensures counts { counted (endpoint_of self.new) ≡ counted (endpoint_of self.old) }
     {
         match heard {
             Ok(Verdict::Taken) => {
                 self.note_resets();
+                self.sweep();
                 Ok(Verdict::Taken)
             }
             heard => {
                 self.note_resets();
+                self.sweep();
                 heard
             }
         }

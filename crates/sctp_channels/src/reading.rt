@@ -7,7 +7,7 @@ ghost use Rattle.sctp_model.specs.end.UserCalls.{UserTakes};
 ghost use Rattle.sctp_recv.specs.HandedOf.{message_bytes};
 ghost use Rattle.sctp_endpoint.specs.Counted.{counted};
 ghost use Rattle.sctp_channels.specs.Streams.{Table};
-ghost use Rattle.sctp_channels.specs.Events.{reports_message, reports_over, next_report};
+ghost use Rattle.sctp_channels.specs.Events.{reports_message, reports_over, next_report, next_told};
 ghost use Rattle.sctp_channels.specs.Writing.{Keeps, Writes};
 ghost use Rattle.sctp_channels.specs.ChannelsStand.{ChannelsStand, endpoint_of};
 ghost use Rattle.sctp_channels.specs.inner.SaidMeans.{bytes_unless};
@@ -52,7 +52,7 @@ impl Channels {
     /// Reports the next event if that is a message for which the buffer has space: its bytes are copied to the beginning of the buffer, and its memory goes
     /// back to the endpoint. Else nothing changes. It is `next_event` without an event to be made and given back, for those who copy each message.
     pub fn next_message_into(&mut self, buffer: &mut [u8]) -> Written
-        ensures did { (v : EndView) (x : Table) → ChannelsStand self.old v x → Writes (next_report v x) v x result self.new buffer.old buffer.new }
+        ensures did { (v : EndView) (x : Table) → ChannelsStand self.old v x → Writes (next_told v x) v x result self.new buffer.old buffer.new }
         ensures kept { Keeps result buffer.old buffer.new }
         ensures counts { counted (endpoint_of self.new) ≡ counted (endpoint_of self.old) }
     {

@@ -128,6 +128,6 @@ pub(crate) fn content_told(state: State, payload_id: u32) -> Option<ContentKind>
 {
     match state {
         State::Unanswered | State::Open | State::Closing => content_kind(payload_id),
-        State::Unused | State::Connecting | State::Refused => None,
+        State::Unused | State::Connecting | State::Refused | State::Silent => None,
     }
 }

@@ -10,7 +10,7 @@ ghost use Rattle.sctp_channels.specs.inner.Spans.{is_busy};
 use crate::table::Table;
 
 impl Table {
-    /// The channel of the stream is being closed, something of it is due, or its amount was above its threshold.
+    /// The stream is being closed, something of it is due, or its amount was above its threshold.
     #[inline(never)]
     fn is_busy(&self, stream: u16) -> bool
         ensures { result ≡ is_busy (stream_at (table_meaning self.now) stream) (threshold_at (table_meaning self.now) stream) }
@@ -52,13 +52,13 @@ impl Table {
         }
     }
 
-    /// The lowest stream with a channel, or with what is left of one. Those below it aren't looked at again.
+    /// The lowest stream with a channel. Those below it aren't looked at again.
     pub(crate) fn first_used(&mut self) -> Option<u16>
         ensures same { table_meaning self.new ≡ table_meaning self.old }
         ensures first { let x : model.Table = table_meaning self.old in result ≡ first_from (is_used x) 0 (length x.streams) }
     {
         for stream in self.used.low..self.used.high {
-            if !self.at(stream).state.is_unused() {
+            if self.at(stream).state.has_channel() {
                 self.used.low = stream;
                 return Some(stream);
             }

@@ -3,8 +3,8 @@
 ghost use Rattle.std.specs.Prelude.{◌≡◌};
 ghost use Rattle.sctp_dcep.specs.Dcep.{value_of};
 ghost use Rattle.sctp_dcep.specs.Meanings.{reliability_meaning};
-ghost use Rattle.sctp_channels.specs.Streams.{unused, is_unused, may_send, is_free, is_drained, type_for, is_ordered, with_channel};
-ghost use Rattle.sctp_channels.specs.Coming.{half_closed, leaving, one_taken, peer_resets};
+ghost use Rattle.sctp_channels.specs.Streams.{unused, is_unused, has_channel, is_ending, may_send, is_reset, is_reset_again, is_free, is_drained, type_for, is_ordered, with_channel};
+ghost use Rattle.sctp_channels.specs.Coming.{half_closed, leaving, left_over, one_taken, peer_resets};
 ghost use Rattle.sctp_channels.specs.Calling.{goes_ordered};
 ghost use Rattle.sctp_channels.specs.Settling.{without_due};
 ghost use Rattle.sctp_channels.specs.inner.Spans.{is_restless};
@@ -24,8 +24,10 @@ pub(crate) enum State {
     Open,
     /// It was closed here or by the peer: nothing is sent any more.
     Closing,
-    /// What the peer sent opened no channel: whatever else it sends before it resets the stream is ignored.
+    /// What the peer sent opened no channel: this side's half is reset, and whatever else the peer sends before it resets its half is ignored.
     Refused,
+    /// The peer reset the stream without a channel that was reported: this side's half is reset, too, and nothing is reported.
+    Silent,
 }
 
 /// The channel type of a DATA_CHANNEL_OPEN (RFC 8832, 5.1).
@@ -56,19 +58,32 @@ pub(crate) enum Due {
     Reset,
 }
 
-/// What is kept of one stream: 16 bytes.
+/// How often the peer reset a stream since its last channel was closed.
+#[derive(Clone, Copy, Debug, PartialEq, Eq)]
+pub(crate) enum Resets {
+    /// It didn't.
+    Zero,
+    /// Once: that closes the channel.
+    One,
+    /// Once more before the channel was reported closed: the second reset is of the stream's next channel.
+    Two,
+}
+
+/// What is kept of one stream: 24 bytes.
 #[derive(Clone, Copy, Debug, PartialEq, Eq)]
 pub(crate) struct Stream {
     /// If the peer reset the stream: how many of the messages that wait for `take` were sent before, the first ones.
     pub(crate) left: usize,
+    /// If the peer reset it twice: how many were sent before the second reset.
+    pub(crate) again: usize,
     /// The reliability parameter of the channel.
     pub(crate) parameter: u32,
     /// The channel type.
     pub(crate) kind: ChannelType,
     pub(crate) state: State,
     pub(crate) due: Due,
-    /// The peer reset the stream since its channel began.
-    pub(crate) is_reset: bool,
+    /// How often the peer reset the stream since its last channel was closed.
+    pub(crate) resets: Resets,
 }
 
 impl State {
@@ -79,11 +94,44 @@ impl State {
         matches!(self, State::Unused)
     }
 
+    /// There is a channel that was opened here or reported.
+    pub(crate) fn has_channel(self) -> bool
+        ensures { result ≡ has_channel self }
+    {
+        matches!(
+            self,
+            State::Connecting | State::Unanswered | State::Open | State::Closing
+        )
+    }
+
+    /// The stream is being closed, with a channel or without one.
+    fn is_ending(self) -> bool
+        ensures { result ≡ is_ending self }
+    {
+        matches!(self, State::Closing | State::Silent)
+    }
+
     /// A channel was opened, and isn't being closed.
     pub(crate) fn may_send(self) -> bool
         ensures { result ≡ may_send self }
     {
         matches!(self, State::Connecting | State::Unanswered | State::Open)
+    }
+}
+
+impl Resets {
+    /// The peer reset the stream.
+    pub(crate) fn is_reset(self) -> bool
+        ensures { result ≡ is_reset self }
+    {
+        matches!(self, Resets::One | Resets::Two)
+    }
+
+    /// It did so twice.
+    fn is_reset_again(self) -> bool
+        ensures { result ≡ is_reset_again self }
+    {
+        matches!(self, Resets::Two)
     }
 }
 
@@ -131,11 +179,12 @@ impl Stream {
     {
         Stream {
             left: 0,
+            again: 0,
             parameter: 0,
             kind: ChannelType::Reliable,
             state: State::Unused,
             due: Due::Nothing,
-            is_reset: false,
+            resets: Resets::Zero,
         }
     }
 
@@ -143,21 +192,21 @@ impl Stream {
     pub(crate) fn is_free(self) -> bool
         ensures { result ≡ is_free self }
     {
-        self.state.is_unused() && !self.is_reset
+        self.state.is_unused() && !self.resets.is_reset()
     }
 
-    /// Its channel is being closed, or something of it is due.
+    /// It is being closed, or something of it is due.
     pub(crate) fn is_restless(self) -> bool
         ensures { result ≡ is_restless self }
     {
-        matches!(self.state, State::Closing) || !matches!(self.due, Due::Nothing)
+        self.state.is_ending() || !matches!(self.due, Due::Nothing)
     }
 
     /// All messages that were sent before the peer's reset were taken.
     pub(crate) fn is_drained(self) -> bool
         ensures { result ≡ is_drained self }
     {
-        self.is_reset && self.left == 0
+        self.resets.is_reset() && self.left == 0
     }
 
     /// With a channel of this reliability, in this state.
@@ -198,25 +247,43 @@ impl Stream {
     pub(crate) fn one_taken(self) -> Stream
         ensures { result ≡ one_taken self }
     {
-        if self.is_reset {
-            self.leaving(self.left.saturating_sub(1))
-        } else {
-            self
-        }
-    }
-
-    /// The peer has reset the stream, and so many messages that wait were sent before.
-    pub(crate) fn reset_by_peer(self, count: usize) -> Stream
-        ensures { result ≡ peer_resets count self }
-    {
-        if self.is_reset {
+        if !self.resets.is_reset() {
             return self;
         }
         Stream {
-            is_reset: true,
+            again: self.again.saturating_sub(1),
+            ..self
+        }
+        .leaving(self.left.saturating_sub(1))
+    }
+
+    /// The peer has reset the stream, and so many messages that wait were sent before. A further reset is kept for the stream's next channel.
+    pub(crate) fn reset_by_peer(self, count: usize) -> Stream
+        ensures { result ≡ peer_resets count self }
+    {
+        if self.resets.is_reset() {
+            return Stream {
+                again: self.left.max(count),
+                resets: Resets::Two,
+                ..self
+            };
+        }
+        Stream {
+            resets: Resets::One,
             ..self
         }
         .leaving(count)
+    }
+
+    /// What is left of the stream once it is closed: the peer has reset it again, or nothing is known of it.
+    pub(crate) fn left_over(self) -> Stream
+        ensures { result ≡ left_over self }
+    {
+        if self.resets.is_reset_again() {
+            Stream::unused().reset_by_peer(self.again)
+        } else {
+            Stream::unused()
+        }
     }
 
     /// So many messages that were sent before the peer's reset are left.
@@ -231,17 +298,26 @@ impl Stream {
         }
     }
 
-    /// The peer's half of the channel is closed, so this side's is to be closed, too (RFC 8831, 6.7).
+    /// The peer's half is closed, so this side's is to be closed, too, unless that was begun (RFC 8831, 6.7).
     fn half_closed(self) -> Stream
         ensures { result ≡ half_closed self.state self }
     {
-        if let State::Closing = self.state {
-            return self;
-        }
-        Stream {
-            state: State::Closing,
-            due: Due::Reset,
-            ..self
+        match self.state {
+            State::Closing | State::Silent => self,
+            State::Refused => Stream {
+                state: State::Silent,
+                ..self
+            },
+            State::Unused => Stream {
+                state: State::Silent,
+                due: Due::Reset,
+                ..self
+            },
+            State::Connecting | State::Unanswered | State::Open => Stream {
+                state: State::Closing,
+                due: Due::Reset,
+                ..self
+            },
         }
     }
 }

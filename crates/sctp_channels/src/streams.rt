@@ -2,7 +2,7 @@
 
 ghost use Rattle.std.specs.Prelude.{◌≡◌, replicate, IfOk, OnErr};
 ghost use Rattle.sctp_channels.specs.Streams.{is_own, no_threshold, fresh_table, stream_at, with_stream, threshold_at, with_threshold, with_none};
-ghost use Rattle.sctp_channels.specs.Events.{one_on};
+ghost use Rattle.sctp_channels.specs.Events.{one_on, with_left_over};
 ghost use Rattle.sctp_channels.specs.Buffered.{with_thresholds};
 ghost use Rattle.sctp_channels.specs.Meanings.{table_meaning};
 
@@ -67,7 +67,7 @@ impl Table {
         if at < self.streams.len() {
             self.streams[at] = to;
             self.busy = self.busy.with(stream, to.is_restless());
-            self.used = self.used.with(stream, !to.state.is_unused());
+            self.used = self.used.with(stream, to.state.has_channel());
         }
     }
 
@@ -113,6 +113,15 @@ impl Table {
             self.thresholds = no_thresholds(alloc, self.streams.len())?;
         }
         Ok(())
+    }
+
+    /// A stream is closed: a further reset by the peer is left of it, if there was one.
+    pub(crate) fn leave(&mut self, stream: u16)
+        ensures { table_meaning self.new ≡ with_left_over (table_meaning self.old) stream }
+    {
+        let kept = self.at(stream);
+        self.set(stream, kept.left_over());
+        self.set_threshold(stream, Threshold::none());
     }
 
     /// Nothing is left of a stream's channel.

@@ -25,9 +25,9 @@ pub(crate) struct Table {
     pub(crate) streams: Vec<Stream>,
     /// The low threshold of each stream; none before the first is set.
     pub(crate) thresholds: Vec<Threshold>,
-    /// Each stream whose channel is being closed, of which something is due, or whose amount was above its threshold, is among these.
+    /// Each stream that is being closed, of which something is due, or whose amount was above its threshold, is among these.
     pub(crate) busy: Span,
-    /// Each stream with a channel, or with what is left of one, is among these.
+    /// Each stream with a channel is among these.
     pub(crate) used: Span,
     ghost few: { length streams.items ≤ 65_535 },
     ghost no_more: { length thresholds.items ≤ length streams.items },

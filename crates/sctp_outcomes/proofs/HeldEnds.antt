@@ -38,7 +38,7 @@ use Rattle.sctp_model.specs.end.Reconfiguring.{asking}
 use Rattle.sctp_model.specs.sender.Resetting.{resetting, with_resets}
 use Rattle.sctp_model.specs.sender.Outgoing.{Outgoing}
 use Rattle.sctp_model.specs.wire.Typed.{typed_in}
-use Rattle.sctp_safety.proofs.machine.Reconfigured.{IsReconfigured, parameters_same, asking_same}
+use Rattle.sctp_safety.proofs.machine.Reconfigured.{IsReconfigured, parameters_same, asking_same, again_same}
 use Rattle.sctp_model.proofs.sender.WearLands.{worn_clear, worn_lands}
 use Rattle.sctp_model.proofs.sender.AbandonedLaws.{expired_reached}
 use Rattle.sctp_model.specs.messages.Format.{Format}
@@ -350,7 +350,7 @@ held_again CookieAlarm e clear r = r
 held_again DataAlarm e clear r = (λ some. expired_paced e.pace (r.0 some), expired_wakes e.phase (option_map expired_pace e.pace) e.sender (expired_timer (e.timers DataAlarm)) (clear refl))
 held_again ShutdownAlarm e clear r = r
 held_again AckAlarm e clear r = r
-held_again ResetAlarm e clear r = r
+held_again ResetAlarm e clear r = let t = with_timer ResetAlarm (expired_timer (e.timers ResetAlarm)) e in held_reconfigured t (due_again ResetAlarm t) (again_same t) r
 
 held_rung : (b : Bool) (a : Alarm) (e : EndView) → (b ≡ true → is_data a ≡ true → NoneWorn e.sender) → IsHeldWell e → IsHeldWell (rung b a e)
 held_rung false a e clear r = r

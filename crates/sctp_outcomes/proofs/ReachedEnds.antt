@@ -36,7 +36,7 @@ use Rattle.sctp_model.specs.sender.SackTaken.{sack_taken, shutdown_taken}
 use Rattle.sctp_model.specs.end.Reconfiguring.{asking}
 use Rattle.sctp_model.specs.sender.Resetting.{resetting}
 use Rattle.sctp_model.specs.wire.Typed.{typed_in}
-use Rattle.sctp_safety.proofs.machine.Reconfigured.{IsReconfigured, parameters_same, asking_same}
+use Rattle.sctp_safety.proofs.machine.Reconfigured.{IsReconfigured, parameters_same, asking_same, again_same}
 
 -- ---- an endpoint
 
@@ -201,7 +201,7 @@ reached_again CookieAlarm e r = r
 reached_again DataAlarm e r = λ some. Repeats e.sender (λ i. true) (r some)
 reached_again ShutdownAlarm e r = r
 reached_again AckAlarm e r = r
-reached_again ResetAlarm e r = r
+reached_again ResetAlarm e r = reached_reconfigured e (due_again ResetAlarm e) (again_same e) r
 
 reached_rung : (b : Bool) (a : Alarm) (e : EndView) → IsReachedAt e → IsReachedAt (rung b a e)
 reached_rung false a e r = r

@@ -6,6 +6,7 @@ pub mod Arrival
 pub mod Abandoning
 pub mod Ending
 pub mod TwoClocks
+pub mod TwoResets
 pub mod ScriptOpening
 pub mod ScriptSending
 pub mod ScriptClosing

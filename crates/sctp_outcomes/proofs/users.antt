@@ -6,3 +6,4 @@ pub mod Held
 pub mod Promised
 pub mod Parted
 pub mod PartedRuns
+pub mod ReportedOnce

@@ -3,9 +3,9 @@ use Rattle.std.specs.Prelude.{◌≡◌, ℕ, ◌+◌, ◌<◌, ◌≤◌, ◌�
 use Rattle.sctp_model.specs.numbers.Lists.{Has, AreInOrder}
 use Rattle.sctp_model.specs.messages.Format.{Ordered}
 use Rattle.sctp_model.specs.end.Configured.{IsConfiguration}
-use Rattle.sctp_model.specs.world.World.{Side, other, World, end_of, Setup, configuration_of, start}
+use Rattle.sctp_model.specs.world.World.{Side, A, B, other, World, end_of, Setup, configuration_of, start}
 use Rattle.sctp_model.specs.world.Events.{Event, Reset, WasReset, Outcome, Done, ResetThere}
-use Rattle.sctp_model.specs.world.Steps.{PassesThrough, last_of}
+use Rattle.sctp_model.specs.world.Steps.{Run, PassesThrough, last_of}
 use Rattle.sctp_model.specs.world.Aged.{Aged}
 use Rattle.sctp_model.specs.world.Premises.{FreshAndUnforged}
 use Rattle.sctp_outcomes.specs.Users.{same_side, sent_by, taken_by, taken, Exchange, exchange, Match, IsMatch}
@@ -77,3 +77,40 @@ abbrev pub ResetsPartMessages : Type 0
 ResetsPartMessages = (s : Setup) (es : List Event) (os : List (Option Outcome)) (vs : List World) → ((x : Side) → IsConfiguration (configuration_of s x)) →
     PassesThrough (start s) es os vs → FreshAndUnforged s.sealing es → Aged (start s) es vs → (x : Side) (n : ℕ) →
     (ms : List Match) × AreMatched (exchange x n es os (last_of (start s) vs)) ms × ((t : IsTold x n es os) → AreParted x n es os vs t ms)
+
+-- ---- how often a reset is reported
+
+-- this side's user asked which stream was reset, and it was this one
+abbrev pub is_reported : Side → (stream : ℕ) → Event → Option Outcome → Bool
+is_reported y n (WasReset s) (Some (ResetThere m k)) = same_side s y && (n == m)
+is_reported y n e o = false
+
+-- an event counts as one, or not at all
+abbrev pub one_if : Bool → ℕ
+one_if true = 1
+one_if false = 0
+
+-- how many of these events are such
+abbrev pub count_of : (Event → Option Outcome → Bool) → List Event → List (Option Outcome) → ℕ
+count_of test (e ∷ es) (o ∷ os) = one_if (test e o) + count_of test es os
+count_of test es os = 0
+
+-- THE PROMISE: in every run that meets the three premises, of each stream in each direction, no more resets are reported to the user than its peer's user
+-- asked for, by calls of `reset` that were accepted: a request that the peer retries under another number is reported once.
+abbrev pub ResetsAreReportedOnce : Type 0
+ResetsAreReportedOnce = (s : Setup) (es : List Event) (os : List (Option Outcome)) (vs : List World) → ((x : Side) → IsConfiguration (configuration_of s x)) →
+    PassesThrough (start s) es os vs → FreshAndUnforged s.sealing es → Aged (start s) es vs → (x : Side) (n : ℕ) →
+    count_of (is_reported (other x) n) es os ≤ count_of (is_reset x n) es os
+
+-- It says something of runs: there is one that meets FRESH and UNFORGED (and Aged, as each run of fewer than 2^31 TSNs does), in which A's user resets stream 0
+-- twice, with nothing sent between, and both resets are reported to B's user.
+pub record TwoResetsAreReported : Type 0 where
+  pub setup : Setup
+  pub configured : (x : Side) → IsConfiguration (configuration_of setup x)
+  pub events : List Event
+  pub answers : List (Option Outcome)
+  pub last : World
+  pub run : Run (start setup) events answers last
+  pub premises : FreshAndUnforged setup.sealing events
+  pub asked : count_of (is_reset A 0) events answers ≡ 2
+  pub reported : count_of (is_reported B 0) events answers ≡ 2

@@ -7,9 +7,9 @@ use Rattle.sctp_model.specs.wire.Packet.{Packet}
 use Rattle.sctp_model.specs.wire.Typed.{Typed, typed_in}
 use Rattle.sctp_model.specs.wire.Reconfig.{OUTGOING_RESET, ResetMeaning, Performed, reconfig_chunk, reset_item, reset_read, is_parameter}
 use Rattle.sctp_model.specs.sender.Outgoing.{Request}
-use Rattle.sctp_model.specs.sender.Resetting.{ready, may_ask, asked, request_said}
+use Rattle.sctp_model.specs.sender.Resetting.{named_next, may_ask, asked, request_said}
 use Rattle.sctp_model.specs.receiver.ReceiverView.{ReceiverView, handed, IsCumulative}
-use Rattle.sctp_model.specs.receiver.ResetTaken.{names, reset_answer, is_in_turn, last_finished, old_waiting}
+use Rattle.sctp_model.specs.receiver.ResetTaken.{names, reset_answer, is_in_turn, last_finished, old_waiting, was_performed}
 use Rattle.sctp_model.specs.end.Sealing.{Body}
 use Rattle.sctp_model.specs.end.EndView.{Tags, Established, Open, ResetAlarm, EndView, has_association}
 use Rattle.sctp_model.specs.end.Closing.{rested}
@@ -48,10 +48,10 @@ pub data IsSaidOrDue (e : EndView) (q : Request) (xs : List ChunkMeaning) (t : E
   IsInPacket : Has xs (reconfig_chunk (reset_item (last_finished e.receiver) (request_said (asked e.sender) q) ∷ [])) → IsSaidOrDue e q xs t
   IsDueStill : IsPacketFull xs t → t.due.request ≡ true → IsSaidOrDue e q xs t
 
--- This endpoint builds this packet, and is left so: it makes this request, for the streams that are ready, up to the last index assigned; that is
--- outstanding, and said or due.
+-- This endpoint builds this packet, and is left so: it makes this request, for the streams that are ready, up to the last index assigned; that is outstanding,
+-- and said or due. If it said the same as the last one, it names the first stream twice.
 pub record AsksFor (e : EndView) (q : Request) (xs : List ChunkMeaning) (t : EndView) : Type 0 where
-  pub streams : q.streams ≡ ready e.sender
+  pub streams : q.streams ≡ named_next e.sender
   pub last : q.last ≡ length e.sender.plan.entries
   pub made : (asked e.sender).resets.pending ≡ Some q
   pub outstanding : t.sender.resets ≡ (asked e.sender).resets
@@ -103,8 +103,8 @@ pub data RequestArrives (w : World) (e : Event) (x : Side) (t : EndView) (r : Re
       p.chunks ≡ front ++ y ∷ back →
       Arrives (end_now w x) w.draw (cut_to p front) t d → is_answer d ≡ false → IsInArriving (end_now w x) (cut_to p front) r c m → RequestArrives w e x t r c m
 
--- In this step a packet arrived at this side, and in it a request was performed that names this stream; at that time this many of its messages had been
--- delivered, taken or not.
+-- In this step a packet arrived at this side, and in it a request was performed that names this stream, and hadn't been performed before; at that time this
+-- many of its messages had been delivered, taken or not.
 pub record WasPerformed (x : Side) (stream n : ℕ) (w : World) (e : Event) (v : World) : Type 0 where
   pub receiver : ReceiverView
   pub cumulative : ℕ
@@ -113,6 +113,7 @@ pub record WasPerformed (x : Side) (stream n : ℕ) (w : World) (e : Event) (v :
   pub in_turn : is_in_turn receiver request.number ≡ true
   pub performed : reset_answer receiver cumulative request ≡ Performed
   pub named : names receiver request.streams stream ≡ true
+  pub anew : was_performed receiver request ≡ false
   pub count : n ≡ length (handed receiver stream)
   pub after : length (handed (end_of w x).receiver stream) ≤ n
   pub before : n ≤ length (handed (end_of v x).receiver stream)

@@ -2,7 +2,7 @@
 //!
 //! No function here does anything: it carries a law as its contract.
 
-ghost use Rattle.sctp_outcomes.specs.Parted.{ResetsPartMessages};
+ghost use Rattle.sctp_outcomes.specs.Parted.{ResetsAreReportedOnce, ResetsPartMessages, TwoResetsAreReported};
 
 // law
 /// In every run that meets the three assumptions, the messages that an application took from a stream, and those that wait, are matched with messages that
@@ -11,4 +11,13 @@ ghost use Rattle.sctp_outcomes.specs.Parted.{ResetsPartMessages};
 /// reported (RFC 6525, 5.1 and 5.2; RFC 8831, 6.7).
 pub fn resets_part_messages()
     ensures { ResetsPartMessages }
+{}
+
+// law
+/// In every run that meets the three assumptions, no more resets of a stream are reported to an application than its peer's user asked for: a request that
+/// its peer sends again, or under another number since it was in progress, is reported once (RFC 6525, 5.2.1 and 5.2.7). And there is a run that meets the
+/// assumptions in which a stream is reset twice, with nothing sent between, and both resets are reported.
+pub fn resets_are_reported_once()
+    ensures once { ResetsAreReportedOnce }
+    ensures twice { TwoResetsAreReported }
 {}

@@ -22,7 +22,7 @@ reaching_moved xs ws p q same =
     rw (same 65 (omega arith) (omega arith), same 155 (omega arith) (omega arith), same 170 (omega arith) (omega arith), same 195 (omega arith) (omega arith), same 209 (omega arith) (omega arith)) refl
 
 -- so that of a block, from the bytes in front of it
-pub part_reaching : (xs ws : List ℕ) (a k : ℕ) → k < 32 → ((j : ℕ) → j < 216 → slice_index ws j ≡ slice_index xs (a + j)) → reaching ws (216 + k) ≡ reaching xs (216 + a + k)
+pub part_reaching : (xs ws : List ℕ) (a k : ℕ) → k < 64 → ((j : ℕ) → j < 216 → slice_index ws j ≡ slice_index xs (a + j)) → reaching ws (216 + k) ≡ reaching xs (216 + a + k)
 part_reaching xs ws a k few same =
     reaching_moved xs ws (216 + k) (216 + a + k) (λ d far near.
     same (216 + k - d) (omega (arith, few, far)) ∙ ap (slice_index xs) (let e : a + (216 + k - d) ≡ 216 + a + k - d = omega (arith, near) in e))
@@ -39,7 +39,7 @@ two_parts zs f first second k few =
 pub block_of : (bytes room taken before : List ℕ) (at k : ℕ) → k < 32 → ((j : ℕ) → j < 32 → slice_index taken j ≡ slice_index bytes (at + j)) → ((j : ℕ) → j < 216 → slice_index before j ≡ slice_index room (at + j)) →
     bit_xor (slice_index taken k) (reaching before (216 + k)) ≡ bit_xor (slice_index bytes (at + k)) (reaching room (216 + at + k))
 block_of bytes room taken before at k few bytes_same room_same =
-    rw (bytes_same k few, part_reaching room before at k few room_same) refl
+    rw (bytes_same k few, part_reaching room before at k (omega (arith, few)) room_same) refl
 
 -- ---- a block that is written
 

@@ -16,5 +16,6 @@ pub mod JoinedLemmas
 pub mod RoomLemmas
 pub mod StartLemmas
 pub mod BlockLemmas
+pub mod PairLemmas
 pub mod LeftLemmas
 pub mod StepBits

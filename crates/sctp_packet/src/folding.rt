@@ -40,10 +40,13 @@ pub(crate) fn fold(register: u32, bytes: &[u8], ends: usize, room: &mut [u8])
     fold_alone(register, bytes, room);
     fold_near(bytes, room);
     fold_odd(bytes, ends, room);
-    let start = NEAR + ends % PAIR;
-    for turn in 0..(ends - start) / PAIR {
-        fold_block(bytes, start + PAIR * turn, 0, room);
-        fold_block(bytes, start + PAIR * turn + BLOCK, 0, room);
+    let mut at = NEAR + ends % PAIR;
+    let mut rest = &bytes[at..ends];
+    while rest.len() >= PAIR {
+        let (pair, more) = rest.split_at(PAIR);
+        fold_pair(pair, &mut room[at..at + FRONT + PAIR]);
+        rest = more;
+        at += PAIR;
     }
 }
 
@@ -75,6 +78,21 @@ fn fold_near(bytes: &[u8], room: &mut [u8])
         let near = word(room, at - 65);
         put(room, at, word(bytes, WORD * place) ^ near);
     }
+}
+
+/// Folds two blocks, of which no byte reaches another, after the bytes that reach them.
+#[inline(always)]
+fn fold_pair(pair: &[u8], room: &mut [u8])
+    requires pair { length pair.now ≡ 64 }
+    requires room { length room.old ≡ 280 }
+    ensures length { length room.new ≡ 280 }
+    ensures here { (k : ℕ) → k < 64 → slice_index room.new (216 + k) ≡ bit_xor (slice_index pair.now k) (reaching room.old (216 + k)) }
+    ensures before { (j : ℕ) → j < 216 → slice_index room.new j ≡ slice_index room.old j }
+{
+    let (before, behind) = room.split_at_mut(FRONT);
+    let (first, second) = behind.split_at_mut(BLOCK);
+    set_block(&pair[..BLOCK], before, FRONT, 0, first);
+    set_block(&pair[BLOCK..], before, FRONT + BLOCK, 0, second);
 }
 
 /// Folds the block after these, if the run's blocks are odd.
@@ -109,6 +127,7 @@ fn fold_block(bytes: &[u8], at: usize, zeros: usize, room: &mut [u8])
     set_block(
         &bytes[at..at + BLOCK],
         &before[at..],
+        FRONT,
         zeros,
         &mut behind[..BLOCK],
     );
@@ -130,22 +149,24 @@ pub(crate) fn leave(bytes: &[u8], ends: usize, room: &mut [u8])
     }
 }
 
-/// Writes a block: its bytes, with what folding moves to each from the bytes before the block, of which the last are so many zeros. All are
-/// read before one is written.
+/// Writes a block: its bytes, with what folding moves to each, at a position from the beginning of the bytes before it, of which the last before
+/// that position are so many zeros. All are read before one is written.
 #[inline(always)]
-fn set_block(bytes: &[u8], before: &[u8], zeros: usize, block: &mut [u8])
+fn set_block(bytes: &[u8], before: &[u8], at: usize, zeros: usize, block: &mut [u8])
     requires bytes { length bytes.now ≡ 32 }
     requires before { length before.now ≡ 216 }
+    requires behind { 216 ≤ at }
+    requires near { at ≤ 248 }
     requires few { zeros ≤ 216 }
-    requires zeros { (j : ℕ) → 216 ≤ j + zeros → j < 216 → slice_index before.now j ≡ 0 }
+    requires zeros { (j : ℕ) → at ≤ j + zeros → j < 216 → slice_index before.now j ≡ 0 }
     requires block { length block.old ≡ 32 }
     ensures length { length block.new ≡ 32 }
-    ensures set { (k : ℕ) → k < 32 → slice_index block.new k ≡ bit_xor (slice_index bytes.now k) (reaching before.now (216 + k)) }
+    ensures set { (k : ℕ) → k < 32 → slice_index block.new k ≡ bit_xor (slice_index bytes.now k) (reaching before.now (at + k)) }
 {
-    let first = sum(lanes(bytes, 0), reaching(before, FRONT, zeros));
+    let first = sum(lanes(bytes, 0), reaching(before, at, zeros));
     let second = sum(
         lanes(bytes, LANES),
-        reaching(before, FRONT + LANES, zeros + LANES),
+        reaching(before, at + LANES, zeros + LANES),
     );
     put_lanes(block, 0, first);
     put_lanes(block, LANES, second);

@@ -43,7 +43,7 @@
 //!
 //! The proof: `proofs/StepLemmas` (the register is linear, so that eight bytes leave what each leaves alone), `TableLemmas` (all 4,096
 //! numbers of the tables are computed once, and each is the remainder of long division), `EightLemmas`, `StepBits` (numbers and bits),
-//! `FoldLemmas`, `JoinedLemmas`, `RoomLemmas`, `StartLemmas`, `BlockLemmas`, `LeftLemmas` (folding leaves the register as it was),
+//! `FoldLemmas`, `JoinedLemmas`, `RoomLemmas`, `StartLemmas`, `BlockLemmas`, `PairLemmas`, `LeftLemmas` (folding leaves the register as it was),
 //! `RegisterLemmas`, `DivisionLaws` and `ChecksumLaws` (the register is the remainder, and there is no other).
 //!
 //! # What a body may still get away with

@@ -19,6 +19,7 @@ use Rattle.sctp_values.specs.declared.ticket.Ticket.{Ticket}
 use Rattle.sctp_pair.specs.Noted.{tickets_to_give_up, IsWatched}
 use Rattle.sctp_pair.proofs.ListedLemmas.{filter-more}
 use Rattle.sctp_safety.proofs.machine.EndWords.{rested_cases}
+use Rattle.sctp_safety.proofs.machine.Reconfigured.{retried_of}
 
 -- ---- timers abandon nothing
 
@@ -31,7 +32,7 @@ again_alike v CookieAlarm e alike = alike
 again_alike v DataAlarm e alike = alike
 again_alike v ShutdownAlarm e alike = alike
 again_alike v AckAlarm e alike = alike
-again_alike v ResetAlarm e alike = alike
+again_alike v ResetAlarm e alike = λ k. ap (λ (x : SenderView). abandoned x k) (retried_of e.sender).1 ∙ alike k
 
 rung_alike : (v : SenderView) (b : Bool) (a : Alarm) (e : EndView) → IsGivenAlike v e → IsGivenAlike v (rung b a e)
 rung_alike v false a e alike = alike

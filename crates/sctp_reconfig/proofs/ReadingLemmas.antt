@@ -20,6 +20,12 @@ u16s_in-some [] long = absurd (omega arith)
 u16s_in-some (a ∷ []) long = absurd (omega arith)
 u16s_in-some (a ∷ b ∷ rest) long = refl
 
+-- how many there are
+pub u16s_in-length : (bytes : List ℕ) → length (u16s_in bytes) ≡ length bytes / 2
+u16s_in-length [] = refl
+u16s_in-length (a ∷ []) = refl
+u16s_in-length (a ∷ b ∷ rest) = let more = u16s_in-length rest in omega (arith, more)
+
 -- numbers of 16 bits are read back
 u16s_in-joined : (xs : List ℕ) → AllByRecursion (λ x. x < 2 ^ 16) xs → u16s_in (joined (map u16_bytes xs)) ≡ xs
 unfolding u16_bytes

@@ -1,5 +1,6 @@
 -- What the parameters of a RE-CONFIG say (RFC 6525, 4).
-use Rattle.std.specs.Prelude.{ℕ, if◌then◌else◌, List, drop, map, Option, option_map}
+use Rattle.std.specs.Prelude.{ℕ, ◌≤◌, if◌then◌else◌, List, length, drop, map, Option, option_map}
+use Rattle.std.specs.List.{AllByRecursion}
 use Rattle.sctp_model.specs.numbers.Numbers.{u32_at}
 use Rattle.sctp_model.specs.wire.Typed.{Typed, typed_of}
 use Rattle.sctp_model.specs.wire.Reconfig.{OUTGOING_RESET, RECONFIG_RESPONSE, ResetMeaning, reset_read, is_parameter, is_other_request}
@@ -26,3 +27,14 @@ parameter_read x =
 -- what all parameters of a RE-CONFIG with this value say, if it is a list of parameters (3.1)
 abbrev pub parameters_of : List ℕ → Option (List ParameterMeaning)
 parameters_of value = option_map (map parameter_read) (typed_of value)
+
+-- a request to reset streams lists at most so many
+abbrev pub ListsAtMost : ℕ → ParameterMeaning → Type 0
+ListsAtMost n (ResetRequested m) = length m.streams ≤ n
+ListsAtMost n (Responded number code) = Unit {0}
+ListsAtMost n (OtherRequested number) = Unit {0}
+ListsAtMost n Ignored = Unit {0}
+
+-- each does
+abbrev pub ListAtMost : ℕ → List ParameterMeaning → Type 0
+ListAtMost n ps = AllByRecursion (ListsAtMost n) ps

@@ -8,6 +8,7 @@
 //! |---|---|
 //! | [`read_parameters`] returns the parameters, in order, exactly if the value is a list of parameters: each is a request to reset outgoing streams, a response, a request of another kind, or is skipped; padding may have any value, and the last may lack it | `parameters_of` |
 //! | the iterator returns each once | [`Parameters`]: `next_gives` |
+//! | none of those left lists more streams than [`Parameters::most_streams`] | `ListAtMost` |
 //! | a request's [`Streams`] are its stream numbers in order; a last odd byte is ignored, and no stream means all | `u16s_in`; [`Streams::iter`], [`StreamIter`]: `next_gives`; [`Streams::is_empty`] |
 //! | what a RE-CONFIG does at an endpoint, as it is defined, is what its parameters do as they are read here | law [`parameters_act`] |
 //! | [`put_reset`], [`put_response`] pad the list to a multiple of 4 with zeros and append the parameter | `bytes`, `writes`, `len` |

@@ -41,9 +41,10 @@ pub fn is_done(code: u32) -> bool
     matches!(code, 0 | 1)
 }
 
-/// Whether a response's result is that the request is in progress, and to be retried (6; RFC 6525, 4.4 and 5.2.7).
+/// Whether a response's result is that a request is in progress, and this one is to be retried (4: another one is in progress; 6: this one is; RFC 6525, 4.4
+/// and 5.2.7).
 pub fn is_in_progress(code: u32) -> bool
     ensures { result ≡ is_progress_code code }
 {
-    code == 6
+    matches!(code, 4 | 6)
 }

@@ -40,6 +40,13 @@ impl<'a> Streams<'a> {
         self.bytes.len() < STREAM
     }
 
+    /// How many are listed.
+    pub(crate) fn len(&self) -> usize
+        ensures { result ≡ length self.now }
+    {
+        self.bytes.len() / STREAM
+    }
+
     /// Goes over them in order.
     pub fn iter(&self) -> StreamIter<'a>
         ensures { result ≡ self.now }

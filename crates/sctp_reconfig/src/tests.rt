@@ -183,6 +183,7 @@ fn results_have_their_codes(rt: HostRuntime) {
         assert_eq!(rt; is_in_progress(code), code == 6);
     }
     assert!(rt; is_done(0) && !is_in_progress(0));
+    assert!(rt; !is_done(4) && is_in_progress(4));
 }
 
 #[test]
@@ -193,6 +194,7 @@ fn a_list_of_streams_may_be_empty(rt: HostRuntime) {
             assert!(rt; false);
             return;
         };
+        assert_eq!(rt; parameters.most_streams(), usize::from(!is_empty));
         match parameters.next() {
             Some(Parameter::Reset(request)) => {
                 assert_eq!(rt; request.streams.is_empty(), is_empty);

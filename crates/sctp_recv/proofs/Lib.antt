@@ -4,7 +4,9 @@ mod PastLaws
 mod NumberLemmas
 mod ResetLemmas
 mod ResponseLemmas
+mod PostponedLemmas
 mod RestartLemmas
+mod RenumberedLemmas
 mod RequestLemmas
 mod ReportLemmas
 mod AnswerLemmas

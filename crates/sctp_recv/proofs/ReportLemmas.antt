@@ -95,6 +95,7 @@ module _ (f : Format) (v : ReceiverView) where
   cleared k l s h low is = record {
     last = is.last ∙ h.last;
     result = is.result ∙ h.result;
+    waited = is.waited ∙ h.waited;
     begun = h.begun;
     answers = h.answers ∙ sym is.answers;
     ordered = λ q. h.ordered q ∙ sym (same (λ (x : Restart). x.ordered) (λ x. refl) q);

@@ -10,7 +10,7 @@ use Rattle.sctp_model.specs.numbers.Lists.{Has}
 use Rattle.sctp_model.specs.messages.Format.{Format}
 use Rattle.sctp_model.specs.wire.Reconfig.{ResetMeaning, ResetResult, Performed, Denied, WrongStream, BadNumber, InProgress}
 use Rattle.sctp_model.specs.receiver.ReceiverView.{ReceiverView}
-use Rattle.sctp_model.specs.receiver.ResetTaken.{names, reset_answer, is_in_turn, answer_in_turn, with_answer, renumbered, renumbered_by, request_taken}
+use Rattle.sctp_model.specs.receiver.ResetTaken.{names, names_anew, reset_answer, is_in_turn, answer_in_turn, with_answer, renumbered_by, request_taken, other_meaning, denied}
 use Rattle.sctp_reconfig.specs.Reading.{ParameterMeaning, ResetRequested, Responded, OtherRequested, Ignored}
 use Rattle.sctp_recv.specs.declared.resets.Resets.{Resets}
 use Rattle.sctp_recv.specs.declared.stream.Stream.{Stream}
@@ -18,29 +18,29 @@ use Rattle.sctp_recv.specs.Requests.{answered, requested, all_requested}
 use Rattle.sctp_recv.specs.Resets.{resets_of, KeepsResets}
 use Rattle.sctp_recv.specs.ReceiverKept.{ReceiverKept}
 use Rattle.sctp_recv.specs.ResetsKept.{ResetsKept}
-use Rattle.sctp_recv.specs.inner.Restarting.{noted}
+use Rattle.sctp_recv.specs.inner.Restarting.{noted, postponed, acted}
 use Rattle.sctp_recv.specs.inner.Requesting.{AreLow, IsBefore}
 
 -- ---- only resets change
 
 -- what a request leaves, once it is in its turn or not
-with_else : (r : ReceiverView) (n : ℕ) (a : ResetResult) (b : Bool) (t : ReceiverView) → t ≡ record r { resets = t.resets } → (if b then with_answer t n a else r) ≡ record r { resets = (if b then with_answer t n a else r).resets }
-with_else r n a true t is = (λ i. record (is i) { resets = (with_answer t n a).resets })
-with_else r n a false t is = refl
+with_else : (r : ReceiverView) (m : ResetMeaning) (a : ResetResult) (b : Bool) (t : ReceiverView) → t ≡ record r { resets = t.resets } → (if b then with_answer t m a else r) ≡ record r { resets = (if b then with_answer t m a else r).resets }
+with_else r m a true t is = (λ i. record (is i) { resets = (with_answer t m a).resets })
+with_else r m a false t is = refl
 
-by_else : (r : ReceiverView) (named : ℕ → Bool) (a : ResetResult) → renumbered_by r named a ≡ record r { resets = (renumbered_by r named a).resets }
-by_else r named Performed = refl
-by_else r named Denied = refl
-by_else r named WrongStream = refl
-by_else r named BadNumber = refl
-by_else r named InProgress = refl
+by_else : (r : ReceiverView) (named anew : ℕ → Bool) (a : ResetResult) → renumbered_by r named anew a ≡ record r { resets = (renumbered_by r named anew a).resets }
+by_else r named anew Performed = refl
+by_else r named anew Denied = refl
+by_else r named anew WrongStream = refl
+by_else r named anew BadNumber = refl
+by_else r named anew InProgress = refl
 
-taken_else : (r : ReceiverView) (n : ℕ) (named : ℕ → Bool) (a : ResetResult) → request_taken r n named a ≡ record r { resets = (request_taken r n named a).resets }
-taken_else r n named a = with_else r n a (is_in_turn r n) (renumbered_by r named a) (by_else r named a)
+taken_else : (r : ReceiverView) (m : ResetMeaning) (named anew : ℕ → Bool) (a : ResetResult) → request_taken r m named anew a ≡ record r { resets = (request_taken r m named anew a).resets }
+taken_else r m named anew a = with_else r m a (is_in_turn r m.number) (renumbered_by r named anew a) (by_else r named anew a)
 
 pub requested_else : (limit c : ℕ) (r : ReceiverView) (p : ParameterMeaning) → requested limit c r p ≡ record r { resets = (requested limit c r p).resets }
-requested_else limit c r (ResetRequested m) = (λ i. record (taken_else r m.number (names r m.streams) (reset_answer r c m) i) { resets = (requested limit c r (ResetRequested m)).resets })
-requested_else limit c r (OtherRequested n) = (λ i. record (taken_else r n (λ s. false) Denied i) { resets = (requested limit c r (OtherRequested n)).resets })
+requested_else limit c r (ResetRequested m) = (λ i. record (taken_else r m (names r m.streams) (names_anew r m) (reset_answer r c m) i) { resets = (requested limit c r (ResetRequested m)).resets })
+requested_else limit c r (OtherRequested n) = (λ i. record (taken_else r (other_meaning n) (λ s. false) (λ s. false) Denied i) { resets = (requested limit c r (OtherRequested n)).resets })
 requested_else limit c r (Responded n code) = refl
 requested_else limit c r Ignored = refl
 
@@ -50,32 +50,58 @@ all_else limit c r (p ∷ ps) =
     all_else limit c (requested limit c r p) ps
     ∙ (λ i. record (requested_else limit c r p i) { resets = (all_requested limit c (requested limit c r p) ps).resets })
 
--- ---- a request that is performed
+-- ---- a request in its turn, or not
 
--- the streams begin anew, and the request is noted
-pub performed : (limit : ℕ) (v : ReceiverView) (n : ℕ) (named : ℕ → Bool) (a : ResetResult) → a ≡ Performed → is_in_turn v n ≡ true →
-    answered limit (renumbered v named) n (answer_in_turn (renumbered v named) n a) (noted (renumbered v named) n a) ≡ answered limit v n (answer_in_turn v n a) (request_taken v n named a)
-performed limit v n named a done turn = ap (λ (t : ReceiverView). answered limit v n (answer_in_turn v n a) t) (same (is_in_turn v n) a turn done)
-  where
-    same : (b : Bool) (o : ResetResult) → b ≡ true → o ≡ Performed → (if b then with_answer (renumbered v named) n o else renumbered v named) ≡ (if b then with_answer (renumbered_by v named o) n o else v)
-    same true Performed e is = refl
-    same true Denied e is = absurd (cc)
-    same true WrongStream e is = absurd (cc)
-    same true BadNumber e is = absurd (cc)
-    same true InProgress e is = absurd (cc)
-    same false o e is = absurd (cc)
+-- one that acted, and whose number and result are noted, is taken
+acted_taken : (v : ReceiverView) (m : ResetMeaning) (a : ResetResult) → is_in_turn v m.number ≡ true → noted (acted v m a) m.number a ≡ request_taken v m (names v m.streams) (names_anew v m) a
+acted_taken v m Performed turn = rw turn refl
+acted_taken v m Denied turn = rw turn refl
+acted_taken v m WrongStream turn = rw turn refl
+acted_taken v m BadNumber turn = rw turn refl
+acted_taken v m InProgress turn = rw turn refl
 
--- any other is noted alone
-pub not_performed : (v : ReceiverView) (n : ℕ) (named : ℕ → Bool) (a : ResetResult) → (a ≡ Performed → is_in_turn v n ≡ true → ⊥) → noted v n a ≡ request_taken v n named a
-not_performed v n named a other = same (is_in_turn v n) a other
+-- only resets change
+pub acted_else : (v : ReceiverView) (m : ResetMeaning) (a : ResetResult) → acted v m a ≡ record v { resets = (acted v m a).resets }
+acted_else v m Performed = refl
+acted_else v m Denied = refl
+acted_else v m WrongStream = refl
+acted_else v m BadNumber = refl
+acted_else v m InProgress = refl
+
+-- unless it is performed no stream begins anew
+pub not_performed : (v : ReceiverView) (named anew : ℕ → Bool) (a : ResetResult) → (a ≡ Performed → ⊥) → renumbered_by v named anew a ≡ v
+not_performed v named anew Performed other = absurd (other refl)
+not_performed v named anew Denied other = refl
+not_performed v named anew WrongStream other = refl
+not_performed v named anew BadNumber other = refl
+not_performed v named anew InProgress other = refl
+
+-- its answer and the responses that wait are as they were
+acted_answer : (limit : ℕ) (v : ReceiverView) (m : ResetMeaning) (a : ResetResult) (t : ReceiverView) →
+    answered limit (acted v m a) m.number (answer_in_turn (acted v m a) m.number a) t ≡ answered limit v m.number (answer_in_turn v m.number a) t
+acted_answer limit v m Performed t = refl
+acted_answer limit v m Denied t = refl
+acted_answer limit v m WrongStream t = refl
+acted_answer limit v m BadNumber t = refl
+acted_answer limit v m InProgress t = refl
+
+pub in_turn : (limit : ℕ) (v : ReceiverView) (m : ResetMeaning) (a : ResetResult) → is_in_turn v m.number ≡ true →
+    answered limit (acted v m a) m.number (answer_in_turn (acted v m a) m.number a) (noted (acted v m a) m.number a)
+    ≡ answered limit v m.number (answer_in_turn v m.number a) (request_taken v m (names v m.streams) (names_anew v m) a)
+in_turn limit v m a turn = acted_answer limit v m a (noted (acted v m a) m.number a) ∙ ap (λ (t : ReceiverView). answered limit v m.number (answer_in_turn v m.number a) t) (acted_taken v m a turn)
+
+-- one of another kind
+pub other_in_turn : (limit : ℕ) (v : ReceiverView) (n : ℕ) → is_in_turn v n ≡ true →
+    answered limit (postponed v (other_meaning n) Denied) n (answer_in_turn (postponed v (other_meaning n) Denied) n Denied) (noted (postponed v (other_meaning n) Denied) n Denied)
+    ≡ answered limit v n (answer_in_turn v n Denied) (denied v n)
+other_in_turn limit v n turn = ap (λ (t : ReceiverView). answered limit v n (answer_in_turn v n Denied) t) same
   where
-    same : (b : Bool) (o : ResetResult) → (o ≡ Performed → b ≡ true → ⊥) → (if b then with_answer v n o else v) ≡ (if b then with_answer (renumbered_by v named o) n o else v)
-    same true Performed no_one = absurd (no_one refl refl)
-    same true Denied no_one = refl
-    same true WrongStream no_one = refl
-    same true BadNumber no_one = refl
-    same true InProgress no_one = refl
-    same false o no_one = refl
+    same : noted (postponed v (other_meaning n) Denied) n Denied ≡ denied v n
+    same = rw turn refl
+
+-- one that isn't in its turn changes nothing
+pub not_in_turn : (v : ReceiverView) (m : ResetMeaning) (named anew : ℕ → Bool) (a : ResetResult) → is_in_turn v m.number ≡ false → noted v m.number a ≡ request_taken v m named anew a
+not_in_turn v m named anew a other = rw other refl
 
 -- ---- the result
 

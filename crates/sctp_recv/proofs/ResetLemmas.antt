@@ -54,6 +54,7 @@ pub none_kept : (f : Format) (initial streams : ℕ) → KeepsResets f None init
 none_kept f initial streams = record {
   last = refl;
   result = refl;
+  waited = refl;
   begun = λ on. absurd (cc);
   answers = refl;
   ordered = λ s. refl;
@@ -68,6 +69,7 @@ pub fresh_kept : (f : Format) (k : ResetsKept) (initial streams : ℕ) (taken : 
 fresh_kept f k initial streams taken r fresh h = record {
   last = fresh.last ∙ h.last;
   result = fresh.result ∙ h.result;
+  waited = fresh.waited ∙ h.waited;
   begun = h.begun;
   answers = h.answers ∙ sym fresh.answers;
   ordered = λ s. h.ordered s ∙ sym (ap (λ (x : Restart). x.ordered) (fresh.restart s));
@@ -85,6 +87,7 @@ pub taken_kept : (f : Format) (k l : Option ResetsKept) (initial streams s : ℕ
 taken_kept f k l initial streams s taken r m has h = record {
   last = has.last initial ∙ h.last;
   result = has.result ∙ h.result;
+  waited = has.waited ∙ h.waited;
   begun = h.begun;
   answers = h.answers ∙ sym has.answers;
   ordered = λ q. h.ordered q ∙ sym (same (λ (x : Restart). x.ordered) (λ x n. refl) q);

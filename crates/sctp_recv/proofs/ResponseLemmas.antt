@@ -66,6 +66,7 @@ pub rejoined : (f : Format) (k l : ResetsKept) (initial streams : ℕ) (taken : 
 rejoined f k l initial streams taken r xs ys h is same = subst (λ (m : ResetsKept). KeepsResets f (Some m) initial streams taken (record r { answers = xs })) (sym is) (record {
   last = h.last;
   result = h.result;
+  waited = h.waited;
   begun = h.begun;
   answers = sym same;
   ordered = h.ordered;

@@ -1,15 +1,16 @@
 -- What is kept of the peer's resets says what a view knows of them (RFC 6525, 5.2).
-use Rattle.std.specs.Prelude.{◌≡◌, ℕ, ◌-◌, ◌*◌, ◌<◌, ◌≤◌, if◌then◌else◌, true, List, [], map, length, slice_index_or, Option, None, Some, is_some, unwrap_or}
+use Rattle.std.specs.Prelude.{◌≡◌, ℕ, ◌-◌, ◌*◌, ◌<◌, ◌≤◌, if◌then◌else◌, true, List, [], map, length, slice_index_or, Option, None, Some, is_some, unwrap_or, option_map}
 use Rattle.std.specs.declared.alloc.Global.{Global}
 use Rattle.std.specs.declared.boxed.Box.{Box}
 use Rattle.sctp_model.specs.numbers.Serial.{tsn}
 use Rattle.sctp_model.specs.wire.Typed.{Typed}
 use Rattle.sctp_model.specs.wire.Reconfig.{ResetResult, BadNumber, response_item}
 use Rattle.sctp_model.specs.messages.Format.{Format, Interleaved, Kind, Ordered, Unordered, ordered_lane, unordered_lane}
-use Rattle.sctp_model.specs.receiver.Incoming.{Incoming}
+use Rattle.sctp_model.specs.receiver.Incoming.{Waited, Incoming}
 use Rattle.sctp_model.specs.receiver.ReceiverView.{Handed}
 use Rattle.sctp_model.specs.receiver.ResetTaken.{is_in_progress}
 use Rattle.sctp_reconfig.specs.Meanings.{result_meaning}
+use Rattle.sctp_recv.specs.declared.postponed.Postponed.{Postponed}
 use Rattle.sctp_recv.specs.declared.restart.Restart.{Restart}
 use Rattle.sctp_recv.specs.declared.restart.ResetResponse.{ResetResponse}
 use Rattle.sctp_recv.specs.declared.resets.Resets.{Resets}
@@ -22,11 +23,16 @@ use Rattle.sctp_recv.specs.inner.Bits.{bit_in}
 abbrev pub response_of : ResetResponse → Typed
 response_of x = response_item x.number (result_meaning x.result)
 
+-- a request that was in progress, and lists these streams
+abbrev pub waited_of : List ℕ → Postponed → Waited
+waited_of streams x = record { last = x.last; streams = streams; done = x.done }
+
 -- resets without their memory
 abbrev pub resets_of : Resets → ResetsKept
 resets_of r = record {
   last = r.last;
   result = result_meaning r.result;
+  waited = option_map (waited_of r.named.items) r.waited;
   streams = r.streams.items;
   told = r.told.words.items;
   answers = map response_of r.answers.items;
@@ -74,6 +80,11 @@ abbrev pub result_in : Option ResetsKept → ResetResult
 result_in None = BadNumber
 result_in (Some r) = r.result
 
+-- what it said, if it was in progress
+abbrev pub waited_in : Option ResetsKept → Option Waited
+waited_in None = None
+waited_in (Some r) = r.waited
+
 -- the responses that wait
 abbrev pub answers_in : Option ResetsKept → List Typed
 answers_in None = []
@@ -96,6 +107,7 @@ AreAllIn streams (Some r) = AreAll streams r
 pub record KeepsResets (f : Format) (k : Option ResetsKept) (initial streams : ℕ) (taken : ℕ → List Handed) (r : Incoming) : Type 0 where
   pub last : last_in k initial ≡ tsn initial r.taken
   pub result : result_in k ≡ r.result
+  pub waited : waited_in k ≡ r.waited
   pub begun : is_in_progress r.result ≡ true → 0 < r.taken
   pub answers : r.answers ≡ answers_in k
   pub ordered : (s : ℕ) → r.base (ordered_lane s) ≡ (restart_in k s).ordered

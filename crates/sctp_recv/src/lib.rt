@@ -31,7 +31,7 @@
 //! | the same, or else the lowest stream of all on which a message waits; None if and only if none waits | [`Receiver::next_readable`]: `NextReadableAnswer` |
 //! | `take` returns the first message that waits on a stream, None if and only if none waits; its bytes are held no longer | [`Receiver::take`]: `TakeLeaves` |
 //! | returning a message's memory, and giving back memory that isn't used, change nothing that a receiver represents | [`Receiver::give_back`], [`Receiver::trim`] |
-//! | all requests of a RE-CONFIG act, one after another, at the cumulative TSN: one to reset streams gets the result of the first row that applies (wrong stream, in progress, performed), if it is the next one, or the last one again after "in progress"; the last one again gets the same result, any other number is a bad one; requests of other kinds are denied; a performed one sets the base of both kinds of each stream that it lists, or of all. Each response waits for a packet if the limit has space for all that wait | [`Receiver::on_requests`]: `step`, `all_requested` |
+//! | all requests of a RE-CONFIG act, one after another, at the cumulative TSN: one to reset streams gets the result of the first row that applies (wrong stream, in progress, performed), if it is the next one, or the last one again after "in progress"; the last one again gets the same result, any other number is a bad one; requests of other kinds are denied; a performed one sets the base of both kinds of each stream that it lists, or of all, and these are to be reported as reset, unless it was performed before: in progress, performed when it arrived again, and retried with the next number. Each response waits for a packet if the limit has space for all that wait | [`Receiver::on_requests`]: `step`, `all_requested` |
 //! | if allocation fails, no request acted, and the receiver represents the same views as before | `on_requests`: `refused` |
 //! | the responses that wait; after `answers_sent` none does, and all else is as before | [`Receiver::answers`], [`Receiver::answers_sent`]: `with_answers` |
 //! | the sequence number of the peer's last request that is finished | [`Receiver::last_finished_request`] |
@@ -72,9 +72,11 @@ mod message;
 mod parameters;
 mod pieces;
 mod places;
+mod postponed;
 mod ready;
 mod reassembly;
 mod receiver;
+mod renumbering;
 mod requests;
 mod resets;
 mod restart;
@@ -84,6 +86,7 @@ mod sacking;
 mod seen;
 mod stream;
 mod trimming;
+mod turns;
 
 pub use answer::Answer;
 pub use forward::ForwardAnswer;

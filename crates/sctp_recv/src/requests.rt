@@ -1,26 +1,27 @@
 //! The requests of the peer to reset its outgoing streams, and the responses to them (RFC 6525, 5.2).
 //!
-//! All requests of a RE-CONFIG act in one call, one after another: memory for what is known of the streams, and for all responses that a
-//! packet has space for, is allocated first, and none if there is no request. A reset costs as much as its request lists, one that lists no
+//! All requests of a RE-CONFIG act in one call, one after another: memory for what is known of the streams, for all responses that a packet has
+//! space for, and for the streams that a request lists, is allocated first, and none if there is no request. A reset costs as much as its request lists, one that lists no
 //! stream a few steps for each stream.
 
-ghost use Rattle.std.specs.Prelude.{◌≡◌, ◌<◌, ◌≤◌, ◌^◌, ◌∷◌, ℕ, Bool, true, nat_le, List, length, map, MatchOption, None, Some, OnOk, OnErr, []};
+ghost use Rattle.std.specs.Prelude.{◌≡◌, ◌≤◌, ◌∷◌, ℕ, true, nat_le, map, MatchOption, None, Some, OnOk, OnErr, [], vec_capacity};
 ghost use Rattle.std.specs.List.{list_any};
 ghost use Rattle.sctp_model.specs.numbers.Serial.{tsn};
-ghost use Rattle.sctp_model.specs.wire.Reconfig.{Performed};
+ghost use Rattle.sctp_model.specs.wire.Reconfig.{Performed, Denied};
+ghost use Rattle.sctp_model.specs.messages.Format.{Format};
 ghost use Rattle.sctp_model.specs.receiver.ReceiverView.{ReceiverView, IsCumulative};
-ghost use Rattle.sctp_model.specs.receiver.ResetTaken.{names, reset_answer, last_finished, with_answers, old_waiting, told_of};
-ghost use Rattle.sctp_reconfig.specs.Reading.{ResetRequested};
+ghost use Rattle.sctp_model.specs.receiver.ResetTaken.{reset_answer, answer_in_turn, denied, last_finished, with_answers, old_waiting, told_of};
+ghost use Rattle.sctp_reconfig.specs.Reading.{ResetRequested, ListAtMost};
 ghost use Rattle.sctp_reconfig.specs.Meanings.{request_meaning, parameter_meaning, result_meaning};
-ghost use Rattle.sctp_recv.specs.Fields.{stream_of};
-ghost use Rattle.sctp_recv.specs.Requests.{all_requested, reset_there};
-ghost use Rattle.sctp_recv.specs.Resets.{response_of, resets_of, AreAll};
+ghost use Rattle.sctp_recv.specs.Requests.{answered, all_requested, reset_there};
+ghost use Rattle.sctp_recv.specs.Resets.{response_of, resets_of, KeepsResets};
 ghost use Rattle.sctp_recv.specs.StandsFor.{StandsFor};
-ghost use Rattle.sctp_recv.specs.inner.Restarting.{HasSpace, AreRestarted};
-ghost use Rattle.sctp_recv.specs.inner.Requesting.{is_same, AreLow, StandsInPart, StandInPart};
+ghost use Rattle.sctp_recv.specs.inner.Restarting.{HasSpace};
+ghost use Rattle.sctp_recv.specs.inner.Requesting.{ActsInTurn, StandsInPart, StandInPart};
 
 use crate::parameters::first_request;
 use crate::receiver::Receiver;
+use crate::renumbering::restart_named;
 use crate::resets::{Resets, make_resets};
 use crate::restart::{Reset, ResetResponse};
 use crate::stream::Stream;
@@ -28,46 +29,6 @@ use sctp_framing::Framing;
 use sctp_reconfig::{Parameter, Parameters, ResetRequest, ResetResult, Streams};
 use sctp_serial::{S32, Serial, tsn_of};
 use sctp_values::NoMemory;
-
-/// The numbers of a stream begin anew, and that is to be reported.
-fn restart_on<F: Framing>(resets: &mut Resets, streams: &Vec<Stream<F>>, stream: u16)
-    ensures restarts { AreAll (length streams.now.items) (resets_of resets.old) → stream < length streams.now.items
-        → AreRestarted (map stream_of streams.now.items) (is_same stream) (resets_of resets.old) (resets_of resets.new) }
-    ensures answers { resets.new.answers ≡ resets.old.answers }
-{
-    let at = usize::from(stream);
-    if at < streams.len() && at < resets.streams.len() {
-        resets.streams[at] = streams[at].restart();
-        resets.told.mark(stream, true);
-    }
-}
-
-/// The numbers of all streams begin anew.
-fn restart_all<F: Framing>(resets: &mut Resets, streams: &Vec<Stream<F>>)
-    ensures restarts { AreAll (length streams.now.items) (resets_of resets.old) → length streams.now.items < 2 ^ 16
-        → AreRestarted (map stream_of streams.now.items) (λ s. true) (resets_of resets.old) (resets_of resets.new) }
-    ensures answers { resets.new.answers ≡ resets.old.answers }
-{
-    let count = u16::try_from(streams.len()).unwrap_or(u16::MAX);
-    for stream in 0..count {
-        restart_on(resets, streams, stream);
-    }
-}
-
-/// The numbers of the streams that a request lists begin anew, of all if it lists none.
-fn restart_named<F: Framing>(resets: &mut Resets, streams: &Vec<Stream<F>>, named: &Streams<'_>)
-    ensures restarts { (v : ReceiverView) → AreAll (length streams.now.items) (resets_of resets.old) → length streams.now.items < 2 ^ 16 → AreLow (length streams.now.items) named.now
-        → AreRestarted (map stream_of streams.now.items) (names v named.now) (resets_of resets.old) (resets_of resets.new) }
-    ensures answers { resets.new.answers ≡ resets.old.answers }
-{
-    if named.is_empty() {
-        restart_all(resets, streams);
-        return;
-    }
-    for stream in named.iter() {
-        restart_on(resets, streams, stream);
-    }
-}
 
 /// Whether a request lists a stream that doesn't exist.
 fn names_other(count: usize, named: &Streams<'_>) -> bool
@@ -102,6 +63,24 @@ fn is_performed(answer: ResetResult) -> bool
     matches!(answer, ResetResult::Performed)
 }
 
+/// What a request in its turn does, once its result is known: if it is performed, the numbers of its streams begin anew. What it says is noted.
+fn act<F: Framing>(
+    resets: &mut Resets,
+    streams: &Vec<Stream<F>>,
+    request: &ResetRequest<'_>,
+    answer: ResetResult,
+)
+    ensures acts { ActsInTurn F.format streams.now resets.old resets.new (request_meaning request.now) (result_meaning answer) }
+    ensures answers { resets.new.answers ≡ resets.old.answers }
+    ensures room { vec_capacity resets.old.named ≤ vec_capacity resets.new.named }
+{
+    if is_performed(answer) {
+        let again = resets.was_performed(request);
+        restart_named(resets, streams, &request.streams, again);
+    }
+    resets.postpone(request, answer);
+}
+
 /// Handles a request to reset streams.
 fn on_reset<F: Framing>(
     resets: &mut Resets,
@@ -112,12 +91,26 @@ fn on_reset<F: Framing>(
 )
     ensures stands { StandsInPart F.format streams.now cumulative limit resets.old resets.new (ResetRequested (request_meaning request.now)) }
     ensures space { HasSpace limit resets.old → HasSpace limit resets.new }
+    ensures room { vec_capacity resets.old.named ≤ vec_capacity resets.new.named }
 {
     let result = result_of(streams.len(), cumulative, request);
-    if is_performed(result) && resets.is_in_turn(request.number) {
-        restart_named(resets, streams, &request.streams);
+    if resets.is_in_turn(request.number) {
+        act(resets, streams, request, result);
     }
     resets.answer(limit, request.number, result);
+}
+
+/// Handles a request of another kind, with this number: it is denied.
+fn on_other(resets: &mut Resets, limit: u16, number: u32)
+    ensures denied { (f : Format) (v : ReceiverView) → KeepsResets f (Some (resets_of resets.old)) v.initial v.streams v.taken v.resets → HasSpace limit resets.old
+        → KeepsResets f (Some (resets_of resets.new)) v.initial v.streams v.taken (answered limit v number (answer_in_turn v number Denied) (denied v number)).resets }
+    ensures space { HasSpace limit resets.old → HasSpace limit resets.new }
+    ensures room { vec_capacity resets.old.named ≤ vec_capacity resets.new.named }
+{
+    if resets.is_in_turn(number) {
+        resets.postpone_none(number);
+    }
+    resets.answer(limit, number, ResetResult::Denied);
 }
 
 /// Handles a parameter: a request to reset streams acts, any other request is denied, and all else is skipped.
@@ -130,10 +123,11 @@ fn on_parameter<F: Framing>(
 )
     ensures stands { StandsInPart F.format streams.now cumulative limit resets.old resets.new (parameter_meaning parameter.entry) }
     ensures space { HasSpace limit resets.old → HasSpace limit resets.new }
+    ensures room { vec_capacity resets.old.named ≤ vec_capacity resets.new.named }
 {
     match parameter {
         Parameter::Reset(request) => on_reset(resets, streams, cumulative, limit, &request),
-        Parameter::OtherRequest { number } => resets.answer(limit, number, ResetResult::Denied),
+        Parameter::OtherRequest { number } => on_other(resets, limit, number),
         Parameter::Response { number: _, code: _ } => {}
         Parameter::Skipped => {}
     }
@@ -169,24 +163,26 @@ impl<F: Framing> Receiver<F> {
             → OnOk result ((c : ℕ) × IsCumulative v c × StandsFor F.format self.new (all_requested limit c v parameters.entry)) }
         ensures refused { (v : ReceiverView) → StandsFor F.format self.old v → OnErr result (StandsFor F.format self.new v) }
     {
+        let most = parameters.most_streams();
         let mut others = parameters;
         match first_request(&mut others) {
-            Some(first) => self.on_all(limit, first, others),
+            Some(first) => self.on_all(limit, most, first, others),
             None => Ok(()),
         }
     }
 
-    /// Handles a request and the parameters after it.
+    /// Handles a request and the parameters after it, of which none lists more than `most` streams.
     ///
     /// # Errors
     /// Allocation failed, and nothing changed.
     fn on_all(
         &mut self,
         limit: u16,
+        most: usize,
         first: Parameter<'_>,
         others: Parameters<'_>,
     ) -> Result<(), NoMemory>
-        ensures step { (v : ReceiverView) → StandsFor F.format self.old v
+        ensures step { (v : ReceiverView) → StandsFor F.format self.old v → ListAtMost most (parameter_meaning first.entry ∷ others.entry)
             → OnOk result ((c : ℕ) × IsCumulative v c × StandsFor F.format self.new (all_requested limit c v (parameter_meaning first.entry ∷ others.entry))) }
         ensures refused { (v : ReceiverView) → StandsFor F.format self.old v → OnErr result (StandsFor F.format self.new v) }
     {
@@ -197,7 +193,7 @@ impl<F: Framing> Receiver<F> {
             return Ok(());
         };
         let resets: &mut Resets = made;
-        resets.reserve(limit)?;
+        resets.reserve(limit, most)?;
         on_parameters(resets, &self.streams, cumulative, limit, first, others);
         Ok(())
     }

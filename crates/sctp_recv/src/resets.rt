@@ -1,15 +1,17 @@
-//! The resets of the peer's streams (RFC 6525, 5.2). Nothing is allocated before the first request; then three numbers and a bit for each stream.
+//! The resets of the peer's streams (RFC 6525, 5.2). Nothing is allocated before the first request; then three numbers and a bit for each stream, and
+//! space for the streams of the longest request.
 
-ghost use Rattle.std.specs.Prelude.{◌≡◌, ℕ, ◌-◌, ◌/◌, List, map, replicate, Some, IsSome, IfOk, OnOk};
+ghost use Rattle.std.specs.Prelude.{◌≡◌, ◌≤◌, ℕ, ◌-◌, ◌/◌, List, map, replicate, Some, IsSome, IfOk, OnOk, vec_capacity};
 ghost use Rattle.sctp_model.specs.messages.Format.{Format};
 ghost use Rattle.sctp_model.specs.receiver.Incoming.{Incoming};
 ghost use Rattle.sctp_model.specs.receiver.ReceiverView.{Handed, ReceiverView};
-ghost use Rattle.sctp_model.specs.receiver.ResetTaken.{is_in_turn, last_finished, answer_in_turn};
+ghost use Rattle.sctp_model.specs.receiver.ResetTaken.{answer_in_turn};
 ghost use Rattle.sctp_reconfig.specs.Meanings.{result_meaning};
 ghost use Rattle.sctp_recv.specs.Requests.{answers_within, answered};
 ghost use Rattle.sctp_recv.specs.Resets.{UNRESET, restart_at, restart_in, response_of, resets_of, resets_in, KeepsResets};
 ghost use Rattle.sctp_recv.specs.inner.Restarting.{IsFresh, HasTaken, HasSpace, IsForgotten, TakesTold, noted};
 
+use crate::postponed::Postponed;
 use crate::ready::Ready;
 use crate::restart::{Reset, ResetResponse, Restart};
 use sctp_reconfig::ResetResult;
@@ -33,6 +35,10 @@ pub(crate) struct Resets {
     pub(crate) streams: Vec<Restart>,
     /// The streams of which a reset wasn't reported to the user.
     pub(crate) told: Ready,
+    /// That last request, if it was in progress.
+    pub(crate) waited: Option<Postponed>,
+    /// Its streams, as it lists them.
+    pub(crate) named: Vec<u16>,
     /// The responses that wait for a packet.
     pub(crate) answers: Vec<ResetResponse>,
 }
@@ -87,18 +93,23 @@ impl Resets {
             result: ResetResult::BadNumber,
             streams,
             told,
+            waited: None,
+            named: Vec::new(alloc),
             answers: Vec::new(alloc),
         })
     }
 
-    /// Reserves memory for as many responses as a packet of `limit` bytes has space for.
+    /// Reserves memory for as many responses as a packet of `limit` bytes has space for, and for `most` streams of a request.
     ///
     /// # Errors
     /// Allocation failed.
-    pub(crate) fn reserve(&mut self, limit: u16) -> Result<(), NoMemory>
+    pub(crate) fn reserve(&mut self, limit: u16, most: usize) -> Result<(), NoMemory>
         ensures same { resets_of self.new ≡ resets_of self.old }
         ensures space { OnOk result (HasSpace limit self.new) }
+        ensures room { OnOk result (most ≤ vec_capacity self.new.named) }
     {
+        let streams = most.saturating_sub(self.named.len());
+        self.named.reserve(streams).map_err(|_| NoMemory)?;
         let more = most_answers(limit).saturating_sub(self.answers.len());
         self.answers.reserve(more).map_err(|_| NoMemory)
     }
@@ -134,48 +145,12 @@ impl Resets {
         Some(Reset { stream, count })
     }
 
-    /// Whether a request with this number is in its turn: it is the next one, or the last one again, if that was in progress.
-    pub(crate) fn is_in_turn(&self, number: u32) -> bool
-        ensures { (f : Format) (v : ReceiverView) → KeepsResets f (Some (resets_of self.now)) v.initial v.streams v.taken v.resets → result ≡ is_in_turn v number }
-    {
-        number == self.last.wrapping_add(1)
-            || (number == self.last && matches!(self.result, ResetResult::InProgress))
-    }
-
-    /// The number of the last request that is finished: one in progress is expected again, under its number.
-    pub(crate) fn last_finished(&self) -> u32
-        ensures { (f : Format) (v : ReceiverView) → KeepsResets f (Some (resets_of self.now)) v.initial v.streams v.taken v.resets → result ≡ last_finished v }
-    {
-        match self.result {
-            ResetResult::InProgress => self.last.wrapping_sub(1),
-            _ => self.last,
-        }
-    }
-
-    /// Notes a request with this number and this answer, if it is in its turn. It returns the answer that it gets.
-    fn note(&mut self, number: u32, answer: ResetResult) -> ResetResult
-        ensures answer { (f : Format) (v : ReceiverView) → KeepsResets f (Some (resets_of self.old)) v.initial v.streams v.taken v.resets
-            → result_meaning result ≡ answer_in_turn v number (result_meaning answer) }
-        ensures noted { (f : Format) (v : ReceiverView) → KeepsResets f (Some (resets_of self.old)) v.initial v.streams v.taken v.resets
-            → KeepsResets f (Some (resets_of self.new)) v.initial v.streams v.taken (noted v number (result_meaning answer)).resets }
-        ensures answers { self.new.answers ≡ self.old.answers }
-    {
-        if self.is_in_turn(number) {
-            self.last = number;
-            self.result = answer;
-            return answer;
-        }
-        if number == self.last {
-            return self.result;
-        }
-        ResetResult::BadNumber
-    }
-
     /// Appends a response to those that wait, if a packet of `limit` bytes has space for them all.
     fn join(&mut self, limit: u16, response: ResetResponse)
         ensures joined { HasSpace limit self.old → map response_of self.new.answers.items ≡ answers_within limit (map response_of self.old.answers.items) (response_of response) }
         ensures others { resets_of self.new ≡ record (resets_of self.old) { answers = map response_of self.new.answers.items } }
         ensures space { HasSpace limit self.old → HasSpace limit self.new }
+        ensures named { self.new.named ≡ self.old.named }
     {
         if self.answers.len() < most_answers(limit) {
             let _ = self.answers.push(response);
@@ -188,6 +163,7 @@ impl Resets {
             → KeepsResets f (Some (resets_of self.new)) v.initial v.streams v.taken
             (answered limit v number (answer_in_turn v number (result_meaning answer)) (noted v number (result_meaning answer))).resets }
         ensures space { HasSpace limit self.old → HasSpace limit self.new }
+        ensures named { self.new.named ≡ self.old.named }
     {
         let result = self.note(number, answer);
         self.join(limit, ResetResponse { number, result });

@@ -4,6 +4,7 @@ ghost use Rattle.std.specs.Prelude.{◌≡◌, ◌-◌, true, false, Some};
 ghost use Rattle.sctp_model.specs.numbers.Serial.{COUNTS};
 ghost use Rattle.sctp_values.specs.Meanings.{kind_meaning};
 ghost use Rattle.sctp_recv.specs.Resets.{UNRESET, base_of};
+ghost use Rattle.sctp_recv.specs.inner.Restarting.{restart_by};
 
 use sctp_reconfig::ResetResult;
 use sctp_values::Kind;
@@ -56,6 +57,18 @@ impl Restart {
         match kind {
             Kind::Ordered => self.ordered,
             Kind::Unordered => self.unordered,
+        }
+    }
+
+    /// The same after it was reset: its numbers begin anew as these do. If it was reset by the same request before, which was retried, nothing more is to
+    /// be reported.
+    pub(crate) fn renumbered(self, anew: Restart, again: bool) -> Restart
+        ensures { result ≡ restart_by again anew self }
+    {
+        Restart {
+            ordered: anew.ordered,
+            unordered: anew.unordered,
+            old: if again { self.old } else { anew.old },
         }
     }
 

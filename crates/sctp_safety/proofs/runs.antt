@@ -1,6 +1,6 @@
 mod Grown
 mod StillStreams
-mod ResetFacts
+pub mod ResetFacts
 mod ReachesLast
 pub mod Dates
 mod PastCum

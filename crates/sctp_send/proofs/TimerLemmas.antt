@@ -129,7 +129,7 @@ keeps_fresh f initial streams fragment rwnd capacity partial large =
       over = record { within = omega arith; each = λ t le. record { queue = refl; tracks = no_rests t streams; items = refl } };
       due = record { many = refl; each = λ t now lt. record { queue = refl; items = λ on. refl; tracks = λ on. late_no_rests now t streams } };
       forward = tt;
-      resets = record { base = refl; sending = λ s low. refl; made = refl; pending = refl; table = tt };
+      resets = record { base = refl; sending = λ s low. refl; made = refl; pending = refl; last = refl; table = tt };
       before = refl;
       counted = refl;
       reached = Begins initial streams fragment rwnd partial large;

@@ -1,5 +1,5 @@
 -- What is kept of the resets of outgoing streams, and of which resets it is that (RFC 6525, 5.1).
-use Rattle.std.specs.Prelude.{◌≡◌, ℕ, ◌<◌, ◌≤◌, min, Bool, List, length, filter, slice_get, Option, None, Some}
+use Rattle.std.specs.Prelude.{◌≡◌, ℕ, ◌<◌, ◌≤◌, min, Bool, List, length, filter, slice_get, if◌then◌else◌, is_some, Option, None, Some}
 use Rattle.std.specs.Vec.{vec_capacity}
 use Rattle.std.specs.List.{AllByRecursion}
 use Rattle.std.specs.declared.alloc.Global.{Global}
@@ -11,8 +11,10 @@ use Rattle.sctp_model.specs.sender.Outgoing.{Outgoing}
 use Rattle.sctp_model.specs.sender.Words.{count_up}
 use Rattle.sctp_send.specs.declared.kept.resets.Sending.{Sending}
 use Rattle.sctp_send.specs.declared.kept.resets.Sending.TheVariants.{Sends, Resets, Refuses}
+use Rattle.sctp_send.specs.declared.kept.request.Numbering.{Numbering}
+use Rattle.sctp_send.specs.declared.kept.request.Numbering.TheVariants.{First, Next, Later}
 use Rattle.sctp_send.specs.declared.kept.resets.StreamReset.{StreamReset}
-use Rattle.sctp_send.specs.declared.kept.resets.Request.{Request}
+use Rattle.sctp_send.specs.declared.kept.request.Request.{Request}
 use Rattle.sctp_send.specs.declared.kept.resets.ResetTable.{ResetTable}
 use Rattle.sctp_send.specs.declared.kept.resets.OutgoingResets.{OutgoingResets}
 
@@ -61,19 +63,40 @@ sending_under (Some b) s = sending_there (slice_get b.value.streams.items s)
 
 -- ---- requests
 
--- the request that waits
-abbrev pub request_meaning : Request → model.Request
-request_meaning r = record { first = r.first; last = r.last; streams = r.streams.items }
+-- which number a request has, by its name in the model
+abbrev pub numbering_meaning : Numbering → model.Numbering
+numbering_meaning First = model.FirstNumber
+numbering_meaning Next = model.NextNumber
+numbering_meaning Later = model.LaterNumber
 
--- the same, if there is one
+-- the same, if it waits
+abbrev pub numbering_kept : Option Numbering → model.Numbering
+numbering_kept None = model.FirstNumber
+numbering_kept (Some x) = numbering_meaning x
+
+-- a request
+abbrev pub request_meaning : Request → model.Request
+request_meaning r = record { first = r.first; last = r.last; streams = r.streams.items; numbering = numbering_kept r.numbering }
+
+-- the last one that was made, if it waits
 abbrev pub pending_meaning : Option Request → Option model.Request
 pending_meaning None = None
-pending_meaning (Some r) = Some (request_meaning r)
+pending_meaning (Some r) = if is_some r.numbering then Some (request_meaning r) else None
 
 -- the same, if there is a table
 abbrev pub pending_under : Option (Box ResetTable Global) → Option model.Request
 pending_under None = None
-pending_under (Some b) = pending_meaning b.value.pending
+pending_under (Some b) = pending_meaning b.value.last_made
+
+-- the last one that was made, as it was made
+abbrev pub last_meaning : Option Request → Option model.Request
+last_meaning None = None
+last_meaning (Some r) = Some (record { first = r.first; last = r.last; streams = r.streams.items; numbering = model.FirstNumber })
+
+-- the same, if there is a table
+abbrev pub last_under : Option (Box ResetTable Global) → Option model.Request
+last_under None = None
+last_under (Some b) = last_meaning b.value.last_made
 
 -- how many sequence numbers were used
 abbrev pub made_under : Option (Box ResetTable Global) → ℕ
@@ -94,7 +117,7 @@ is_resetting_in rs s = model.is_resetting (sending_there (slice_get rs s))
 -- A table has so many streams, and lists those that wait for their reset.
 pub record IsTable (n : ℕ) (t : ResetTable) : Type 0 where
   pub streams : length t.streams.items ≡ n
-  pub request : IsWithin n t.pending
+  pub request : IsWithin n t.last_made
   pub resetting : t.resetting.items ≡ filter (is_resetting_in t.streams.items) (count_up 0 (min n STREAM_LIMIT))
   pub room : min n STREAM_LIMIT ≤ vec_capacity t.resetting
 
@@ -109,4 +132,11 @@ pub record AreResets (n : ℕ) (x : OutgoingResets) (o : Outgoing) : Type 0 wher
   pub sending : (s : ℕ) → s < n → o.sending s ≡ sending_under x.table s
   pub made : o.made ≡ made_under x.table
   pub pending : o.pending ≡ pending_under x.table
+  pub last : o.last_made ≡ last_under x.table
   pub table : IsTabled n x.table
+
+-- This is the last request that was made, and its streams are among so many.
+pub record IsLastMade (n : ℕ) (r : Option Request) (o : Outgoing) : Type 0 where
+  pub pending : o.pending ≡ pending_meaning r
+  pub last : o.last_made ≡ last_meaning r
+  pub within : IsWithin n r

@@ -35,6 +35,7 @@ pub mod message;
 pub mod outstanding;
 pub mod pieces;
 pub mod queue;
+pub mod request;
 pub mod resets;
 pub mod run_room;
 pub mod searching;

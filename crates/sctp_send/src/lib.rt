@@ -33,8 +33,8 @@
 //! | [`Sender::queued`], [`Sender::queued_bytes`] | the length and the bytes of the queue; at most 1,024 messages of 65,536 bytes (`bound`) |
 //! | [`Sender::queued_bytes_on`] | the bytes of the messages in the queue that are on one stream with one of the given payload protocol identifiers; no more than all of it may have (`bound`). Of user data of data channels (51 and 53, in this order) it is kept as a number of each stream |
 //! | [`Sender::reset`], [`Sender::is_resetting`], [`Sender::resetting_streams`] | the stream takes no further message (`resetting`), or the same view if memory is refused (`memory`); whether it waits for its reset, and how many do |
-//! | [`Sender::may_ask`], [`Sender::ask`], [`Sender::take_back_request`], [`Sender::request`], [`ResetRequest`] | whether a request to reset streams may be made; `step`: the view in which it is made, if it may; the view before that; what the request that waits says: its number, the last TSN that was assigned when it was made, and its streams, the lowest 256 of which nothing waits or is outstanding |
-//! | [`Sender::on_response`] | the view after a response: its streams count from 0 again and take messages, the request has the next number, or its streams take none |
+//! | [`Sender::may_ask`], [`Sender::ask`], [`Sender::take_back_request`], [`EarlierRequest`], [`Sender::request`], [`ResetRequest`] | whether a request to reset streams may be made; `step`: the view in which it is made, if it may, `before`: the last one before it; the view before that; what the request that waits says: its number, the last TSN that was assigned when it was made, and its streams, the lowest 256 of which nothing waits or is outstanding, the first of them twice if it said the same as the last one |
+//! | [`Sender::on_response`], [`Sender::retry_request`] | the view after a response: its streams count from 0 again and take messages, the request goes on under its number or the one before, or its streams take none; the view in which a request in progress has the next number, as it is retransmitted |
 //! | [`Sender::reached`] | a law: each view that a sender stands for is one that its calls reach |
 //! | [`Sender::limited`] | laws: an abandoned message isn't at its limit (`gone`), and `wear` and `wear_between` abandon only messages that `next_at_limit` gives (`only`) |
 //!
@@ -70,8 +70,8 @@
 //! to its own, 4 bytes each, if there is none yet: the table doubles. What is kept for that is in `kept`, and each part's counts are its invariant: an
 //! entry takes 32 bytes with the count of its retransmissions, which ends at 65,535, as limits do.
 //!
-//! The files of `src` form a path on which each imports only what is before it: `last_forward`, `message`, `resets`, `sendings`; `blocks`, `by_ticket`,
-//! `dues`, `entry`, `seats`, `shells`, `user_data`; `fates`, `heads`, `pieces`; `queue`, `told`, `track`, `wishes`; `counts`, `looking`, `queued_on`;
+//! The files of `src` form a path on which each imports only what is before it: `last_forward`, `message`, `request`, `sendings`; `blocks`, `by_ticket`,
+//! `dues`, `entry`, `resets`, `seats`, `shells`, `user_data`; `fates`, `heads`, `naming`, `pieces`; `queue`, `told`, `track`, `wishes`; `counts`, `looking`, `queued_on`;
 //! `streams`, `stretches`; `acknowledging`, `outstanding`; `by_message`, `entries`, `flying`, `giving_back`, `going_out`, `lanes`, `marking`,
 //! `repeats`, `run_room`, `searching`, `stock`, `table`, `tally`, `telling`, `weight`; `assigning`, `covered`, `others`, `restarting`, `sender`,
 //! `still`, `waking`; `answering`, `asking`, `at_limit`, `last`, `laws`, `owing`, `pace`, `readers`, `resetting`, `sack`, `wear`, `weighing`; `abandon`,
@@ -100,7 +100,7 @@ pub use fill::Filled;
 pub use fill::sendings::Sendings;
 pub use pace::weight::Weight;
 pub use queueing::SendFault;
-pub use resetting::ResetRequest;
+pub use resetting::{EarlierRequest, ResetRequest};
 pub use sack::SackFault;
 pub use sctp_values::{NoMemory, Ticket};
 pub use sender::Sender;

@@ -6,7 +6,7 @@ pub mod passing;
 ghost use Rattle.std.specs.Prelude.{◌≡◌, ℕ, ◌<◌, ◌≤◌, ◌++◌, ◌∷◌, [], map, length, vec_capacity, None, OnOk, OnErr, IfErr, IfSome, IfNone};
 ghost use Rattle.sctp_model.specs.numbers.Limits.{LONGEST_MESSAGE, TICKET_LIMIT};
 ghost use Rattle.sctp_model.specs.sender.SenderView.{SenderView};
-ghost use Rattle.sctp_model.specs.sender.Queueing.{refusal};
+ghost use Rattle.sctp_model.specs.sender.Queueing.{cut, refusal};
 ghost use Rattle.sctp_send.specs.OutstandingFields.{queued_meaning};
 ghost use Rattle.sctp_send.specs.SenderFields.{queued_by};
 ghost use Rattle.sctp_send.specs.declared.queueing.SendFault.TheVariants.{NoMemory as FaultNoMemory};
@@ -14,7 +14,7 @@ ghost use Rattle.sctp_send.specs.SenderStands.{StandsFor};
 ghost use Rattle.sctp_send.specs.SenderAnswers.{QueueAnswer, queue_after, lane_for, refused_with};
 
 use crate::kept::message::{Fate, Message};
-use crate::kept::pieces::{fragments_of, owed};
+use crate::kept::pieces::{fragments_in, owed};
 use crate::kept::queue::Queue;
 use crate::kept::shells::{buffer_of, in_shell};
 use crate::queueing::owing::reserve_message;
@@ -133,7 +133,8 @@ impl<F: Framing> Sender<F> {
             return Err(fault);
         }
         let given = self.told.fates.len();
-        let more = owed(fragments_of(self.told.fragment, &bytes));
+        let fragments = fragments_in(self.told.fragment, &bytes);
+        let more = owed(fragments);
         let entries = self.owed_by_accepted().wrapping_add(more);
         match reserve_message(
             &mut self.told.fates,
@@ -159,6 +160,7 @@ impl<F: Framing> Sender<F> {
             &mut self.told.shells,
             self.told.alloc,
             message,
+            fragments,
         )?;
         self.told.fates.push(Fate::Queued);
         self.told.dues.push(until);
@@ -191,7 +193,7 @@ impl<F: Framing> Sender<F> {
             return Some(SendFault::QueueFull);
         }
         let promised = self.promised();
-        let more = owed(fragments_of(self.told.fragment, bytes));
+        let more = owed(fragments_in(self.told.fragment, bytes));
         let given = self.told.fates.len();
         if given >= TICKET_LIMIT as usize {
             return Some(SendFault::Spent);
@@ -203,14 +205,16 @@ impl<F: Framing> Sender<F> {
     }
 }
 
-/// A message comes to the end of the queue, with the owners of its fragments.
+/// A message of so many fragments comes to the end of the queue, with the owners of these.
 #[inline(always)]
 fn enqueue(
     queue: &mut Queue,
     shells: &mut Vec<Arc<Message>>,
     alloc: Global,
     message: Message,
+    fragments: usize,
 ) -> Result<(), SendFault>
+    requires all { fragments ≡ length (cut queue.old.size message.bytes.items) }
     requires some { 0 < length message.bytes.items }
     requires short { length message.bytes.items ≤ LONGEST_MESSAGE }
     ensures size { queue.new.size ≡ queue.old.size }
@@ -222,7 +226,7 @@ fn enqueue(
         Ok(message) => message,
         Err(_) => return Err(SendFault::NoMemory),
     };
-    match queue.push(alloc, message) {
+    match queue.push(alloc, message, fragments) {
         Ok(()) => Ok(()),
         Err(_) => Err(SendFault::NoMemory),
     }

@@ -1,20 +1,23 @@
 //! Resets of outgoing streams: asked for by the user, requested of the peer, and done once it has performed them (RFC 6525, 5.1).
 //!
 //! A stream whose reset was asked for takes no further message. It is ready once nothing of it waits in the queue, is in part, or is outstanding. A
-//! request names the lowest 256 streams that are ready, and one request waits at a time.
+//! request names the lowest 256 streams that are ready, the first of them twice if it would say the same as the last one, and one request waits at a time.
 
 pub mod answering;
+pub mod naming;
 pub mod restarting;
 pub mod still;
 pub mod table;
 
-ghost use Rattle.std.specs.Prelude.{◌≡◌, ◌&&◌, true, nat_lt, if◌then◌else◌, OnOk, OnErr, MatchOption, None};
+ghost use Rattle.std.specs.Prelude.{◌≡◌, ◌&&◌, true, nat_lt, if◌then◌else◌, IfOk, OnOk, OnErr, MatchOption, None};
 ghost use Rattle.sctp_model.specs.sender.Outgoing.{is_resetting};
 ghost use Rattle.sctp_model.specs.sender.Resetting.{resetting, may_ask, asked};
 ghost use Rattle.sctp_model.specs.sender.SenderView.{SenderView};
-ghost use Rattle.sctp_send.specs.ResetAnswers.{IsRequest, resetting_streams};
+ghost use Rattle.sctp_send.specs.ResetAnswers.{IsRequest, WasMade, resetting_streams};
 ghost use Rattle.sctp_send.specs.SenderStands.{StandsFor};
 
+use crate::kept::request::Request;
+use crate::resetting::naming::named_after;
 use crate::resetting::still::{any_still, last_out_on, still_of};
 use crate::sender::Sender;
 use sctp_framing::Framing;
@@ -28,8 +31,21 @@ pub struct ResetRequest<'a> {
     pub number: u32,
     /// The last TSN that was assigned when it was made.
     pub last: u32,
-    /// Its streams, by rising number: 1 to 256.
+    /// Its streams, by rising number: 1 to 256, of which the first may come twice.
     pub streams: &'a [u16],
+}
+
+/// The request that was made before the one that `ask` made, if there was one: `take_back_request` gives it its place again.
+#[derive(Drop)]
+pub struct EarlierRequest {
+    pub(crate) request: Option<Request>,
+}
+
+impl EarlierRequest {
+    /// There was none.
+    pub fn none() -> EarlierRequest {
+        EarlierRequest { request: None }
+    }
 }
 
 #[tactic(auto, unfolding(crate::specs::SenderStands::StandsFor))]
@@ -102,16 +118,18 @@ impl<F: Framing> Sender<F> {
         Ok(())
     }
 
-    /// Makes a request to reset the streams that are ready, if it may be made (`may_ask`); else it changes nothing (RFC 6525, 5.1.2).
+    /// Makes a request to reset the streams that are ready, if it may be made (`may_ask`); else it changes nothing (RFC 6525, 5.1.2). If it said the same as
+    /// the last one, but for its number, it names its first stream twice (5.2.7). Returns the last one.
     ///
     /// # Errors
     /// `NoMemory` if an allocation fails; the sender's view is then as before.
-    pub fn ask(&mut self) -> Result<(), NoMemory>
+    pub fn ask(&mut self) -> Result<EarlierRequest, NoMemory>
         ensures step { (v : SenderView) → StandsFor F.format self.old v → OnOk result (StandsFor F.format self.new (if may_ask v then asked v else v)) }
+        ensures before { (v : SenderView) → StandsFor F.format self.old v → may_ask v ≡ true → IfOk result (λ before. WasMade before v) }
         ensures memory { (v : SenderView) → StandsFor F.format self.old v → OnErr result (StandsFor F.format self.new v) }
     {
         if !self.told.resets.is_free() {
-            return Ok(());
+            return Ok(EarlierRequest::none());
         }
         let streams = still_of(
             self.told.alloc,
@@ -121,20 +139,21 @@ impl<F: Framing> Sender<F> {
             self.told.resets.resetting(),
         )?;
         if streams.is_empty() {
-            return Ok(());
+            return Ok(EarlierRequest::none());
         }
         let last = self
             .told
             .cum
             .wrapping_add(self.parts.outstanding.len() as u64);
-        self.told.resets.ask(last, streams);
-        Ok(())
+        let named = named_after(&self.told.resets, self.told.initial, last, streams)?;
+        let request = self.told.resets.ask(last, named);
+        Ok(EarlierRequest { request })
     }
 
-    /// Takes back the request that `ask` made, where the packet that would have carried it isn't built. It takes no memory.
-    pub fn take_back_request(&mut self)
-        ensures { (v : SenderView) → StandsFor F.format self.old (asked v) → may_ask v ≡ true → StandsFor F.format self.new v }
+    /// Takes back the request that `ask` made, where the packet that would have carried it isn't built; `before` is what `ask` returned. It takes no memory.
+    pub fn take_back_request(&mut self, before: EarlierRequest)
+        ensures { (v : SenderView) → StandsFor F.format self.old (asked v) → may_ask v ≡ true → WasMade before v → StandsFor F.format self.new v }
     {
-        self.told.resets.take_back();
+        self.told.resets.take_back(before.request);
     }
 }

@@ -1,8 +1,11 @@
+mod ConnectLemmas
+mod HeardLemmas
 mod ListeningLemmas
 mod MeetingLaws
 mod PeerLaws
 mod ProductLaws
 mod RoutingLaws
+mod SocketLemmas
 mod TableLemmas
 mod TurnLaws
 mod UnkeptLaws

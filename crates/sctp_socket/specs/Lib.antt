@@ -1,4 +1,8 @@
 pub mod ByPeer
+pub mod Connecting
+pub mod Ends
+pub mod Entries
+pub mod Hearing
 pub mod Meeting
 pub mod Numbers
 pub mod Opposite
@@ -6,6 +10,8 @@ pub mod Peers
 pub mod Places
 pub mod Product
 pub mod Routing
+pub mod SocketStands
+pub mod SocketView
 pub mod Table
 pub mod Tags
 pub mod Turns

@@ -64,6 +64,16 @@ module _ {E : Type 0} where
     pub next : next_of u ≡ next_of t
     pub tags : u.tags ≡ t.tags
 
+  -- the same associations, but for the one with this number
+  pub record Replaced (t : Table E) (number : ℕ) (e : Entry E) (u : Table E) : Type 0 where
+    pub entry : numbers.Puts number (Some e) t.entries u.entries
+    pub next : next_of u ≡ next_of t
+    pub tags : u.tags ≡ t.tags
+
+  -- the association with this number, if there is one, is replaced by one that has this relation to it
+  abbrev pub Changes : (Entry E → Entry E → Type 0) → (number : ℕ) → (t u : Table E) → Type 0
+  Changes P number t u = (e : Entry E) → entry_of t number ≡ Some e → (f : Entry E) × P e f × Replaced t number f u
+
   -- the same associations, and this tag is of none
   pub record Unnoted (t : Table E) (tag : ℕ) (u : Table E) : Type 0 where
     pub entries : u.entries ≡ t.entries
@@ -73,10 +83,10 @@ module _ {E : Type 0} where
   abbrev pub serves_another : Table E → (tag : ℕ) → (number : Option ℕ) → Bool
   serves_another t tag number = tags.serves_another t.tags tag number
 
-  -- there is an association whose peer admits packets from there
+  -- there is an association, its peer hasn't restarted, and it admits packets from there
   abbrev pub IsAdmitted : Source → (from : Peer) → Option (Entry E) → Type 0
   IsAdmitted source from None = ⊥
-  IsAdmitted source from (Some e) = Admits source e.peer from
+  IsAdmitted source from (Some e) = (e.current ≡ true) × Admits source e.peer from
 
   -- A packet with this verification tag is for the association with this number: the tag is of that, and its peer admits the packet.
   pub record IsFor (t : Table E) (tag : ℕ) (from : Peer) (source : Source) (number : ℕ) : Type 0 where

@@ -1,6 +1,6 @@
 //! The association with each peer.
 
-ghost use Rattle.std.specs.Prelude.{◌≡◌, None, Some, OnErr, OnOk};
+ghost use Rattle.std.specs.Prelude.{◌≡◌, None, Some, IsSome, OnErr, OnOk};
 ghost use Rattle.sctp_socket.specs.ByPeer.{HasNone, Keeps, Puts, number_with};
 
 use crate::peer::Peer;
@@ -46,6 +46,18 @@ impl ByPeer {
     {
         let text = peer.text();
         self.numbers.get(&text).copied()
+    }
+
+    /// Notes again what was noted of this peer before the latest association was.
+    pub(crate) fn restore(&mut self, peer: &Peer, before: Option<u64>)
+        ensures { IsSome (number_with self.old peer.now) → Puts peer.now before self.old self.new }
+    {
+        match before {
+            None => self.remove(peer),
+            Some(number) => {
+                let _ = self.put(peer, number);
+            }
+        }
     }
 
     /// Removes this peer, with which there is no association any more.

@@ -1,7 +1,7 @@
 //! Many peers at one socket: which packet is for which association, and when a cookie begins one or begins it anew (RFC 9260, 5.2, 8.4 and 8.5; RFC 6458, 3; RFC 6951, 5.4).
 //!
-//! It is a first part: what a socket decides, and what it keeps under numbers and tags. The socket itself, with an endpoint for each association, isn't here yet, and no program
-//! uses this crate. It knows no endpoint: its definitions and laws are of the state machine in `sctp_model/specs/end`.
+//! It is a first part: what a socket decides, what it keeps under numbers and tags, and a socket that calls and handles packets. It doesn't send yet, and no program uses this crate.
+//! It knows an endpoint by the trait [`SocketEnd`] alone: its definitions and laws are of the state machine in `sctp_model/specs/end`.
 //!
 //! # What is promised
 //!
@@ -15,6 +15,9 @@
 //! - [`Numbered`]: values under numbers that are never given again. [`Tags`]: the association that each verification tag is of, never two. [`ByPeer`]: the latest
 //!   association with each peer. [`Table`]: the associations of a socket, by number and by tag; [`Table::find`] is the one that a packet under its tag is for, exactly if there is one
 //!   whose peer admits it. [`Turns`]: who may send, in turn.
+//! - [`Socket::connect`]: a call begins an association with the next number, or the first reason that applies refuses it and nothing changes (`specs/Connecting`).
+//!   [`Socket::handle_packet`]: a packet has the effect that the tables say, and at the endpoint that it is for the state machine's (`specs/Hearing`). [`Socket::end`], [`Socket::peer`]: an
+//!   association's endpoint, and where its packets go.
 //! - Laws: [`calls_meet`] (of two sockets that call each other one call wins, as both see it; no tag of one side serves two associations), [`routes_are_narrow`] (which packets reach an
 //!   endpoint), [`listeners_are_values`] (nothing is kept of an unverified INIT), [`peers_are_apart`], [`each_is_alone`] (what an endpoint does beside others is what it does alone),
 //!   [`each_turn_comes`].
@@ -26,13 +29,20 @@
 //! Returning `NoMemory` although there is memory: the tests show that it doesn't.
 #![tactic(auto)]
 
+mod arriving;
+mod beginning;
 mod by_peer;
+mod calling;
+mod ends;
+mod entries;
+mod heard;
 mod laws;
 mod listening;
 mod meeting;
 mod numbered;
 mod peer;
 mod routing;
+mod socket;
 mod table;
 mod tags;
 #[cfg(test)]
@@ -40,6 +50,9 @@ mod tests;
 mod turns;
 
 pub use by_peer::ByPeer;
+pub use calling::CallFault;
+pub use ends::SocketEnd;
+pub use heard::{Heard, Origin};
 pub use laws::{
     calls_meet, each_is_alone, each_turn_comes, listeners_are_values, peers_are_apart,
     routes_are_narrow,
@@ -48,6 +61,7 @@ pub use meeting::{Meeting, Reply, Standing, meets, reply_to};
 pub use numbered::Numbered;
 pub use peer::{Host, Peer, Source, key_for};
 pub use routing::{Place, Route, is_found_by_peer};
+pub use socket::Socket;
 pub use table::{Entry, Table};
 pub use tags::Tags;
 pub use turns::Turns;

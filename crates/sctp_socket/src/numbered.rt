@@ -10,7 +10,7 @@ use std::collections::BTreeMap;
 /// Values under numbers from 1.
 #[derive(Drop)]
 pub struct Numbered<E: Drop> {
-    values: BTreeMap<u64, E>,
+    pub(crate) values: BTreeMap<u64, E>,
     next: u64,
 }
 

@@ -17,6 +17,10 @@ pub struct Entry<E: Drop> {
     pub peer: Peer,
     /// Its verification tag: packets to this side carry it.
     pub own: u32,
+    /// The time up to which its peer's cookies begin nothing, in milliseconds: at it the association was called, or the cookie made that began it.
+    pub bar: u64,
+    /// It isn't over for its user by a restart of the peer.
+    pub current: bool,
     /// Its endpoint.
     pub end: E,
 }
@@ -24,8 +28,8 @@ pub struct Entry<E: Drop> {
 /// The associations of a socket.
 #[derive(Drop)]
 pub struct Table<E: Drop> {
-    entries: Numbered<Entry<E>>,
-    tags: Tags,
+    pub(crate) entries: Numbered<Entry<E>>,
+    pub(crate) tags: Tags,
 }
 
 impl<E: Drop> Table<E> {
@@ -38,6 +42,13 @@ impl<E: Drop> Table<E> {
             entries: Numbered::new(alloc),
             tags: Tags::new(alloc),
         }
+    }
+
+    /// The number that the next association gets.
+    pub(crate) fn next(&self) -> u64
+        ensures { result ≡ next_of self.now }
+    {
+        self.entries.next()
     }
 
     /// Adds an association under the next number, which is returned. None, and nothing changed, if its verification tag is already of one.
@@ -127,7 +138,7 @@ impl<E: Drop> Table<E> {
     {
         match self.entries.get(number) {
             None => false,
-            Some(entry) => entry.peer.admits(from, source),
+            Some(entry) => entry.current && entry.peer.admits(from, source),
         }
     }
 }

@@ -126,12 +126,16 @@ fn an_association_is_found_by_its_tag_and_its_host(rt: HostRuntime) -> Result<()
     let first = Entry {
         peer,
         own: 0x10,
+        bar: 100,
+        current: true,
         end: 7,
     };
     assert_eq!(rt; table.open(first)?, Some(1));
     let second = Entry {
         peer,
         own: 0x10,
+        bar: 100,
+        current: true,
         end: 8,
     };
     assert_eq!(rt; table.open(second)?, None);

@@ -1,6 +1,6 @@
 //! Whose turn it is to send.
 
-ghost use Rattle.std.specs.Prelude.{◌≡◌, ◌++◌, ◌∷◌, [], OnOk, OnErr};
+ghost use Rattle.std.specs.Prelude.{◌≡◌, ℕ, List, ◌++◌, ◌∷◌, [], length, slice_get, OnOk, OnErr};
 ghost use Rattle.sctp_socket.specs.Turns.{turned_once, waiting_of};
 
 use sctp_values::NoMemory;
@@ -32,6 +32,13 @@ impl Turns {
         ensures refused { OnErr result (waiting_of self.new ≡ waiting_of self.old) }
     {
         self.waiting.push_back(number).map_err(|_| NoMemory)
+    }
+
+    /// The last one is taken out, if there is one.
+    pub(crate) fn withdraw(&mut self)
+        ensures { (xs : List ℕ) (x : ℕ) → waiting_of self.old ≡ xs ++ x ∷ [] → waiting_of self.new ≡ xs }
+    {
+        let _ = self.waiting.pop_back();
     }
 
     /// The first one goes after all others.

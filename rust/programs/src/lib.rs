@@ -30,6 +30,8 @@ include!(concat!(env!("OUT_DIR"), "/erased.rs"));
 #[cfg(test)]
 mod counted;
 mod help;
+#[cfg(test)]
+mod sockets;
 
 use rattle_std::runtime::HostRuntime;
 use std::process::{ExitCode, Termination};

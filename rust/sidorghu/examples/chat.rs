@@ -77,8 +77,9 @@ impl Member {
     fn handle(&mut self, socket: &UdpSocket, packet: &[u8], from: SocketAddr, now: Duration) -> Result<(), Box<dyn Error>> {
         match self.endpoint.handle_packet(now, packet, random::draw()?)? {
             Verdict::Answer(answer) => drop(socket.send_to(&answer, from)),
-            Verdict::Taken => (self.at, self.last) = (from, now),
-            Verdict::Dropped(_) => {}
+            // a COOKIE ECHO, 10, may be a late copy, and who sends it from where says nothing
+            Verdict::Taken if packet.get(12) != Some(&10) => (self.at, self.last) = (from, now),
+            Verdict::Taken | Verdict::Dropped(_) => {}
         }
         Ok(())
     }

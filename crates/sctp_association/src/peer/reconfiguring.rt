@@ -1,10 +1,9 @@
 //! RE-CONFIG (RFC 6525): the requests of the peer act at the receiver, its responses at the sender. These are two halves of an endpoint, so all requests of
 //! a chunk act first, which alone may need memory, and then all of its responses.
 
-ghost use Rattle.std.specs.Prelude.{◌≡◌, ℕ, ◌&&◌, true, false, is_some, OnOk, OnErr, MatchOption};
+ghost use Rattle.std.specs.Prelude.{◌≡◌, ℕ, true, false, is_some, OnOk, OnErr, MatchOption};
 ghost use Rattle.std.specs.List.{list_any};
 ghost use Rattle.sctp_model.specs.wire.Typed.{typed_in};
-ghost use Rattle.sctp_model.specs.wire.Reconfig.{is_progress_code};
 ghost use Rattle.sctp_model.specs.messages.Format.{Format};
 ghost use Rattle.sctp_model.specs.sender.SenderView.{SenderView};
 ghost use Rattle.sctp_model.specs.sender.Resetting.{is_open_number, response_taken};
@@ -23,8 +22,7 @@ use crate::state::life::Life;
 use crate::time::timer::{Alarm, Timer};
 use crate::traffic::Traffic;
 use sctp_reconfig::{
-    Parameter, Parameters, RECONFIG, codes_are_the_definitions, is_in_progress, parameters_act,
-    read_parameters,
+    Parameter, Parameters, RECONFIG, codes_are_the_definitions, parameters_act, read_parameters,
 };
 use sctp_values::NoMemory;
 
@@ -109,25 +107,19 @@ impl Machine {
     fn hear_response(&mut self, number: u32, code: u32)
         ensures { (v : EndView) → MachineStands self.old v → MachineStands self.new (response_heard v number code) }
     {
-        let retries = self.is_retried(number, code);
+        let answered = self.is_asked(number);
         self.respond(number, code);
-        self.retry(retries);
+        self.restart(answered);
         self.ask_on();
     }
 
-    /// The response is to the request that waits, and says that it is in progress.
-    fn is_retried(&self, number: u32, code: u32) -> bool
-        ensures { (v : EndView) → MachineStands self.now v → result ≡ (is_open_number v.sender number && is_progress_code code) }
+    /// After a response to the request that waits its timer, if it runs, starts again as that of a new one (RFC 6525, 5.2.7).
+    fn restart(&mut self, answered: bool)
+        ensures { (v : EndView) → MachineStands self.old v → MachineStands self.new (in_progress answered v) }
     {
-        self.is_asked(number) && is_in_progress(code)
-    }
-
-    /// The timer of a request that is in progress starts again (RFC 6525, 5.2.7); its expiries count (5.1.1).
-    fn retry(&mut self, retries: bool)
-        ensures { (v : EndView) → MachineStands self.old v → MachineStands self.new (in_progress retries v) }
-    {
-        if retries {
-            let timer = self.timers.get(Alarm::Reset).restarted(self.moment);
+        if answered {
+            let wait = self.asking_wait();
+            let timer = self.timers.get(Alarm::Reset).restarted(self.moment, wait);
             self.timers.put(Alarm::Reset, timer);
         }
     }

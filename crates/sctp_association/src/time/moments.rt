@@ -4,6 +4,7 @@
 ghost use Rattle.std.specs.Prelude.{◌≡◌, true, option_map};
 ghost use Rattle.sctp_model.specs.sender.SenderView.{SenderView};
 ghost use Rattle.sctp_model.specs.sender.Readers.{point};
+ghost use Rattle.sctp_model.specs.sender.Resetting.{retried};
 ghost use Rattle.sctp_model.specs.end.EndView.{EndView};
 ghost use Rattle.sctp_model.specs.end.EndView as model;
 ghost use Rattle.sctp_model.specs.end.Clock.{at_moment, settled};
@@ -13,6 +14,7 @@ ghost use Rattle.sctp_association.specs.TimersMean.{alarm_meaning};
 ghost use Rattle.sctp_association.specs.MachineStands.{MachineStands};
 
 use crate::machine::Machine;
+use crate::state::life::Life;
 use crate::time::timer::{Alarm, is_over_at};
 use crate::time::timers::earlier;
 use sctp_terms::End;
@@ -123,7 +125,7 @@ impl Machine {
             Alarm::Fragments => self.repeat_fragments(),
             Alarm::Shutdown => self.due.owe_shutdown(),
             Alarm::ShutdownAck => self.due.owe_shutdown_ack(),
-            Alarm::Reset => self.due.owe_request(true),
+            Alarm::Reset => self.repeat_request(),
         }
     }
 
@@ -135,6 +137,24 @@ impl Machine {
         self.due.owe_forward(past);
         self.repeat();
         self.expire_pace();
+    }
+
+    /// The request that waits is due again; if it is in progress, it takes the next sequence number (RFC 6525, 5.2.7).
+    fn repeat_request(&mut self)
+        ensures { (v : EndView) → MachineStands self.old v → MachineStands self.new (due_again model.ResetAlarm v) }
+    {
+        self.due.owe_request(true);
+        self.retry_request();
+    }
+
+    /// The sender's request is retransmitted.
+    fn retry_request(&mut self)
+        ensures { (v : EndView) → MachineStands self.old v → MachineStands self.new (record v { sender = retried v.sender }) }
+    {
+        match &mut self.life {
+            Life::Unjoined(_) => {}
+            Life::Joined(association) => association.traffic.retry_request(),
+        }
     }
 
     /// The data timer expired: nothing is timed, misses are counted anew, and the congestion window is one packet (RFC 9260, 6.3.3 and 7.2.3).

@@ -48,6 +48,17 @@ impl Timer {
         }
     }
 
+    /// A timer that never ran, with this timeout, in milliseconds.
+    pub(crate) fn waiting(wait: u64) -> Timer
+        ensures { timer_meaning result ≡ record unused_timer { wait = wait } }
+    {
+        Timer {
+            wait,
+            repeats: 0,
+            expiry: None,
+        }
+    }
+
     /// The timer, started at this time; one that runs already keeps its expiry (RFC 9260, 6.3.2).
     fn running(self, now: u64) -> Timer
         ensures { timer_meaning result ≡ running now (timer_meaning self) (timer_meaning self).expiry }
@@ -171,19 +182,20 @@ impl Timer {
         }
     }
 
-    /// The timer, started again at this time if it runs: its timeout and its count stay (RFC 6525, 5.2.7 and 5.1.1).
-    pub(crate) fn restarted(self, now: u64) -> Timer
-        ensures { timer_meaning result ≡ restarted now (timer_meaning self) }
+    /// The timer, started again at this time with this timeout, in milliseconds, if it runs; its count is 0 (RFC 6525, 5.2.7).
+    pub(crate) fn restarted(self, now: u64, wait: u64) -> Timer
+        ensures { timer_meaning result ≡ restarted now wait (timer_meaning self) }
     {
         match self.expiry {
             Some(_) => {
-                let next = now.saturating_add(self.wait);
+                let next = now.saturating_add(wait);
                 Timer {
+                    wait,
+                    repeats: 0,
                     expiry: Some(next),
-                    ..self
                 }
             }
-            None => self,
+            None => Timer::waiting(wait),
         }
     }
 }

@@ -1,13 +1,13 @@
 //! Stream reset at the sender and at the receiver, in either format (RFC 6525, 5).
 
-ghost use Rattle.std.specs.Prelude.{◌≡◌, true, ℕ, ◌&&◌, nat_lt, is_some, if◌then◌else◌, [], map, Some, None, OnOk, OnErr, MatchOption};
+ghost use Rattle.std.specs.Prelude.{◌≡◌, true, ℕ, ◌&&◌, nat_lt, is_some, if◌then◌else◌, [], map, Some, None, IfOk, OnOk, OnErr, MatchOption};
 ghost use Rattle.sctp_model.specs.messages.Format.{Format};
 ghost use Rattle.sctp_model.specs.sender.Outgoing.{is_resetting};
-ghost use Rattle.sctp_model.specs.sender.Resetting.{resetting, may_ask, asked, response_taken};
+ghost use Rattle.sctp_model.specs.sender.Resetting.{resetting, may_ask, asked, retried, response_taken};
 ghost use Rattle.sctp_model.specs.sender.SenderView.{SenderView};
 ghost use Rattle.sctp_model.specs.receiver.ReceiverView.{ReceiverView, IsCumulative};
 ghost use Rattle.sctp_model.specs.receiver.ResetTaken.{last_finished, with_answers, old_waiting, told_of};
-ghost use Rattle.sctp_send.specs.ResetAnswers.{IsRequest, resetting_streams};
+ghost use Rattle.sctp_send.specs.ResetAnswers.{IsRequest, WasMade, resetting_streams};
 ghost use Rattle.sctp_recv.specs.Requests.{all_requested, reset_there};
 ghost use Rattle.sctp_recv.specs.Resets.{response_of};
 ghost use Rattle.sctp_association.specs.TrafficStands.{TrafficStands};
@@ -15,7 +15,7 @@ ghost use Rattle.sctp_association.specs.TrafficStands.{TrafficStands};
 use crate::traffic::Traffic;
 use sctp_reconfig::Parameters;
 use sctp_recv::{Reset, ResetResponse};
-use sctp_send::ResetRequest;
+use sctp_send::{EarlierRequest, ResetRequest};
 use sctp_values::NoMemory;
 
 impl Traffic {
@@ -75,12 +75,13 @@ impl Traffic {
         }
     }
 
-    /// Makes a request to reset the streams that are ready, if it may be made (RFC 6525, 5.1.2).
+    /// Makes a request to reset the streams that are ready, if it may be made (RFC 6525, 5.1.2). Returns the last one before it.
     ///
     /// # Errors
     /// `NoMemory` if an allocation was refused; nothing changed then.
-    pub(crate) fn ask(&mut self) -> Result<(), NoMemory>
+    pub(crate) fn ask(&mut self) -> Result<EarlierRequest, NoMemory>
         ensures step { (f : Format) (s : SenderView) (r : ReceiverView) → TrafficStands self.old f s r → OnOk result (TrafficStands self.new f (if may_ask s then asked s else s) r) }
+        ensures before { (f : Format) (s : SenderView) (r : ReceiverView) → TrafficStands self.old f s r → may_ask s ≡ true → IfOk result (λ before. WasMade before s) }
         ensures refused { (f : Format) (s : SenderView) (r : ReceiverView) → TrafficStands self.old f s r → OnErr result (TrafficStands self.new f s r) }
     {
         match self {
@@ -89,13 +90,23 @@ impl Traffic {
         }
     }
 
-    /// Undoes `ask` that made a request, if the packet that would carry it isn't sent.
-    pub(crate) fn take_back_request(&mut self)
-        ensures { (f : Format) (s : SenderView) (r : ReceiverView) → TrafficStands self.old f (asked s) r → may_ask s ≡ true → TrafficStands self.new f s r }
+    /// Undoes `ask` that made a request, if the packet that would carry it isn't sent; `before` is what it returned.
+    pub(crate) fn take_back_request(&mut self, before: EarlierRequest)
+        ensures { (f : Format) (s : SenderView) (r : ReceiverView) → TrafficStands self.old f (asked s) r → may_ask s ≡ true → WasMade before s → TrafficStands self.new f s r }
     {
         match self {
-            Traffic::Plain(directions) => directions.sender.take_back_request(),
-            Traffic::Interleaved(directions) => directions.sender.take_back_request(),
+            Traffic::Plain(directions) => directions.sender.take_back_request(before),
+            Traffic::Interleaved(directions) => directions.sender.take_back_request(before),
+        }
+    }
+
+    /// The request that waits is retransmitted: if it is in progress, it takes the next sequence number (RFC 6525, 5.2.7).
+    pub(crate) fn retry_request(&mut self)
+        ensures { (f : Format) (s : SenderView) (r : ReceiverView) → TrafficStands self.old f s r → TrafficStands self.new f (retried s) r }
+    {
+        match self {
+            Traffic::Plain(directions) => directions.sender.retry_request(),
+            Traffic::Interleaved(directions) => directions.sender.retry_request(),
         }
     }
 

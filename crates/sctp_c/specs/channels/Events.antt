@@ -8,7 +8,7 @@ use Rattle.sctp_channels.specs.declared.channels.Channels.{Channels}
 use Rattle.sctp_channels.specs.declared.reading.Written.{Written}
 use Rattle.sctp_channels.specs.declared.reading.Written.TheVariants.{Other}
 use Rattle.sctp_channels.specs.ChannelsStand.{ChannelsStand}
-use Rattle.sctp_channels.specs.Events.{next_report}
+use Rattle.sctp_channels.specs.Events.{next_told}
 use Rattle.sctp_channels.specs.Meanings.{event_meaning}
 use Rattle.sctp_channels.specs.Streams.{Table}
 use Rattle.sctp_channels.specs.Told.{Told, Incoming, Opened, Message, Closed, BufferedAmountLow, Refuses, Ignores, Report}
@@ -114,7 +114,7 @@ waits_after (Err why) n rest = rest
 
 -- what was written of the next event, if no event waits
 abbrev pub WritesNext : EndView → Table → (before : Option Event) → Written → Channels → (old new : List ℕ) → Type 0
-WritesNext v x None w c old new = Writes (next_report v x) v x w c old new
+WritesNext v x None w c old new = Writes (next_told v x) v x w c old new
 WritesNext v x (Some event) w c old new = (w ≡ Other) × ChannelsStand c v x × (new ≡ old)
 
 -- The event that waited, or else the channels' next one, was this; C gets it, what is left is what it leaves, and it waits if it didn't fit.

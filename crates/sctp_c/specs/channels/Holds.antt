@@ -15,7 +15,7 @@ use Rattle.sctp_channels.specs.declared.fault.OpenFault.{OpenFault}
 use Rattle.sctp_channels.specs.declared.fault.SendFault.{SendFault}
 use Rattle.sctp_channels.specs.Answers.{Opens, OpensNegotiated, Sends, Closes}
 use Rattle.sctp_channels.specs.ChannelsStand.{endpoint_of, ChannelsStand}
-use Rattle.sctp_channels.specs.Events.{Reported, next_report}
+use Rattle.sctp_channels.specs.Events.{Reported, next_told}
 use Rattle.sctp_channels.specs.Meanings.{event_meaning}
 use Rattle.sctp_channels.specs.Packets.{Hears}
 use Rattle.sctp_channels.specs.Streams.{Table}
@@ -34,7 +34,7 @@ waiting_in (Some h) = h.waiting
 
 -- what is told next, and what is left: the event that waits, or else the channels' next
 abbrev pub next_of : Option Event → EndView → Table → Reported
-next_of None v x = next_report v x
+next_of None v x = next_told v x
 next_of (Some event) v x = record { report = Some (event_meaning event); view = v; table = x }
 
 -- what the endpoint below the channels counted

@@ -37,6 +37,7 @@ content_told state.Unanswered payload bytes = content_of payload bytes
 content_told state.Open payload bytes = content_of payload bytes
 content_told state.Closing payload bytes = content_of payload bytes
 content_told state.Refused payload bytes = None
+content_told state.Silent payload bytes = None
 
 -- what a message of these bytes says
 abbrev pub said_meaning : List ℕ → Said → model.Said

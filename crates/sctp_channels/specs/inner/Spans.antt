@@ -5,8 +5,7 @@ use Rattle.sctp_channels.specs.declared.stream.Stream.{Stream}
 use Rattle.sctp_channels.specs.declared.threshold.Threshold.{Threshold}
 use Rattle.sctp_channels.specs.declared.stream.Due.{Due}
 use Rattle.sctp_channels.specs.declared.stream.Due.TheVariants.{Nothing, Acknowledgement, Reset}
-use Rattle.sctp_channels.specs.Streams.{unused, is_unused, no_threshold}
-use Rattle.sctp_channels.specs.Settling.{is_closing}
+use Rattle.sctp_channels.specs.Streams.{unused, has_channel, is_ending, no_threshold}
 
 -- the stream is one of the range
 abbrev pub IsWithin : Span → (stream : ℕ) → Type 0
@@ -22,9 +21,9 @@ is_due Nothing = false
 is_due Acknowledgement = true
 is_due Reset = true
 
--- the channel is being closed, or something of the stream is due
+-- the stream is being closed, or something of it is due
 abbrev pub is_restless : Stream → Bool
-is_restless x = is_closing x.state || is_due x.due
+is_restless x = is_ending x.state || is_due x.due
 
 -- or the buffered amount was above the threshold
 abbrev pub is_busy : Stream → Threshold → Bool
@@ -34,6 +33,6 @@ is_busy x t = is_restless x || t.is_above
 abbrev pub AreBusyWithin : Span → List Stream → List Threshold → Type 0
 AreBusyWithin r xs ts = (s : ℕ) → is_busy (slice_index_or xs s unused) (slice_index_or ts s no_threshold) ≡ true → IsWithin r s
 
--- each stream with a channel, or what is left of one, is one of the range
+-- each stream with a channel is one of the range
 abbrev pub AreUsedWithin : Span → List Stream → Type 0
-AreUsedWithin r xs = (s : ℕ) → is_unused (slice_index_or xs s unused).state ≡ false → IsWithin r s
+AreUsedWithin r xs = (s : ℕ) → has_channel (slice_index_or xs s unused).state ≡ true → IsWithin r s

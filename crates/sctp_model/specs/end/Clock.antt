@@ -133,9 +133,9 @@ abbrev pub restarted_expiry : (now wait : ℕ) → Option ℕ → Option ℕ
 restarted_expiry now wait None = None
 restarted_expiry now wait (Some m) = Some (after_wait now wait)
 
--- The timer, started again if it runs (RFC 6525, 5.2.7): its wait and its count of repeats stay, so that its expiries count (5.1.1).
-abbrev pub restarted : ℕ → Timer → Timer
-restarted now t = record t { expiry = restarted_expiry now t.wait t.expiry }
+-- The timer, started again with this wait if it runs (RFC 6525, 5.2.7): its count of repeats is 0, since a peer that answers isn't given up.
+abbrev pub restarted : (now wait : ℕ) → Timer → Timer
+restarted now wait t = record { wait = wait; repeats = 0; expiry = restarted_expiry now wait t.expiry }
 
 -- ---- the data timer of an endpoint with a pace
 

@@ -3,6 +3,7 @@
 use Rattle.std.specs.Prelude.{ℕ, nat_lt, min, Bool, true, false, not, ◌||◌, ◌==◌, if◌then◌else◌, List, [], ◌∷◌, Option, Some, None, option_map}
 use Rattle.sctp_model.specs.sender.SenderView.{SenderView}
 use Rattle.sctp_model.specs.sender.Readers.{point}
+use Rattle.sctp_model.specs.sender.Resetting.{retried}
 use Rattle.sctp_model.specs.sender.Abandoning.{expired, worn, timed_out}
 use Rattle.sctp_model.specs.end.EndView.{TimedOut, Alarm, InitAlarm, CookieAlarm, DataAlarm, ShutdownAlarm, AckAlarm, ResetAlarm, Timer, EndView}
 use Rattle.sctp_model.specs.end.EndView.{has_association}
@@ -20,7 +21,8 @@ after_abandoning e v =
 
 -- ---- timers
 
--- what goes out once more after an expiry (RFC 9260, 6.3.3); of the data timer all that is unsettled, and a FORWARD if the point is past CUM
+-- what goes out once more after an expiry (RFC 9260, 6.3.3); of the data timer all that is unsettled, and a FORWARD if the point is past CUM;
+-- a request in progress takes its next number
 abbrev pub due_again : Alarm → EndView → EndView
 due_again InitAlarm e = with_due (record e.due { init = true }) e
 due_again CookieAlarm e = with_due (record e.due { cookie_echo = true }) e
@@ -31,7 +33,7 @@ due_again DataAlarm e = record e {
 }
 due_again ShutdownAlarm e = with_due (record e.due { shutdown = true }) e
 due_again AckAlarm e = with_due (record e.due { shutdown_ack = true }) e
-due_again ResetAlarm e = with_due (record e.due { request = true }) e
+due_again ResetAlarm e = record e { sender = retried e.sender; due = record e.due { request = true } }
 
 -- A timer that is due expires; the last time the endpoint gives up, and sends nothing (8.1).
 abbrev pub rung : Bool → Alarm → EndView → EndView

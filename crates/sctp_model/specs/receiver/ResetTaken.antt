@@ -7,10 +7,11 @@ use Rattle.sctp_model.specs.wire.Typed.{Typed}
 use Rattle.sctp_model.specs.wire.Reconfig.{ResetMeaning, ResetResult, Performed, Denied, WrongStream, BadNumber, InProgress}
 use Rattle.sctp_model.specs.messages.Format.{Kind, Ordered, Unordered, Lane, same_lane, unordered_lane}
 use Rattle.sctp_model.specs.messages.Pieces.{Piece}
-use Rattle.sctp_model.specs.sender.Outgoing.{lists}
+use Rattle.sctp_model.specs.sender.Outgoing.{lists, are_listed}
 use Rattle.sctp_model.specs.receiver.ReceiverView.{Handed, ReceiverView, handed}
 use Rattle.sctp_model.specs.receiver.Rows.{first_of}
 use Rattle.sctp_model.specs.receiver.Reading.{is_behind}
+use Rattle.sctp_model.specs.receiver.Incoming.{Waited}
 
 -- ---- the next number of a lane, once all up to the request has arrived
 
@@ -72,6 +73,14 @@ is_in_progress Denied = false
 is_in_progress WrongStream = false
 is_in_progress BadNumber = false
 
+-- that is finished well
+abbrev pub is_done : ResetResult → Bool
+is_done Performed = true
+is_done InProgress = false
+is_done Denied = false
+is_done WrongStream = false
+is_done BadNumber = false
+
 -- It is in its turn: the next one, or the last one, if that was in progress.
 abbrev pub is_in_turn : ReceiverView → (number : ℕ) → Bool
 is_in_turn r number = is_next r number || (is_again r number && is_in_progress r.resets.result)
@@ -88,37 +97,66 @@ last_finished r = tsn r.initial (requests_finished r)
 abbrev pub answer_in_turn : ReceiverView → (number : ℕ) → ResetResult → ResetResult
 answer_in_turn r number a = first_of ((is_in_turn r number, a) ∷ (is_again r number, r.resets.result) ∷ []) BadNumber
 
+-- ---- the same request again
+
+-- That request was in progress and was performed since, and this one says the same.
+abbrev pub is_done_again : Option Waited → ResetMeaning → Bool
+is_done_again None m = false
+is_done_again (Some w) m = w.done && ((w.last == m.last) && are_listed w.streams m.streams)
+
+-- The request was performed before: in progress under one sequence number, performed when it arrived again, and retried with the next number before the peer had
+-- learned that (5.2.7). Its streams begin anew again, where they already do; nothing more is to be reported.
+abbrev pub was_performed : ReceiverView → ResetMeaning → Bool
+was_performed r m = is_done_again r.resets.waited m
+
+-- what is known of it once it has this result: of one that is in progress, and of one that was, and arrives again
+abbrev pub waited_on : ReceiverView → ResetMeaning → ResetResult → Option Waited
+waited_on r m a =
+    if is_in_progress a then Some (record { last = m.last; streams = m.streams; done = was_performed r m })
+    else if is_next r m.number then None
+    else Some (record { last = m.last; streams = m.streams; done = is_done a })
+
 -- ---- the receiver after it
 
 -- it is noted as the last one
-abbrev pub with_answer : ReceiverView → (number : ℕ) → ResetResult → ReceiverView
-with_answer r number a = record r { resets = record r.resets { taken = if is_next r number then suc r.resets.taken else r.resets.taken; result = a } }
+abbrev pub with_answer : ReceiverView → ResetMeaning → ResetResult → ReceiverView
+with_answer r m a = record r {
+  resets = record r.resets { taken = if is_next r m.number then suc r.resets.taken else r.resets.taken; result = a; waited = waited_on r m a };
+}
 
--- the numbers of these streams begin anew, and it is to be reported how many of their messages were delivered before
-abbrev pub renumbered : ReceiverView → (ℕ → Bool) → ReceiverView
-renumbered r named = record r {
+-- the numbers of these streams begin anew, and of these it is to be reported how many of their messages were delivered before
+abbrev pub renumbered : ReceiverView → (named anew : ℕ → Bool) → ReceiverView
+renumbered r named anew = record r {
   resets = record r.resets {
     base = λ l. if named l.stream then count_on r l.stream l.kind else r.resets.base l;
-    told = λ s. if named s then Some (length (handed r s)) else r.resets.told s;
+    told = λ s. if anew s then Some (length (handed r s)) else r.resets.told s;
   };
 }
 
 -- if the request is performed
-abbrev pub renumbered_by : ReceiverView → (ℕ → Bool) → ResetResult → ReceiverView
-renumbered_by r named Performed = renumbered r named
-renumbered_by r named a = r
+abbrev pub renumbered_by : ReceiverView → (named anew : ℕ → Bool) → ResetResult → ReceiverView
+renumbered_by r named anew Performed = renumbered r named anew
+renumbered_by r named anew a = r
 
--- The view after a request with this number for these streams, with the result `a` if it is in its turn.
-abbrev pub request_taken : ReceiverView → (number : ℕ) → (ℕ → Bool) → ResetResult → ReceiverView
-request_taken r number named a = if is_in_turn r number then with_answer (renumbered_by r named a) number a else r
+-- The view after a request for these streams, with the result `a` if it is in its turn.
+abbrev pub request_taken : ReceiverView → ResetMeaning → (named anew : ℕ → Bool) → ResetResult → ReceiverView
+request_taken r m named anew a = if is_in_turn r m.number then with_answer (renumbered_by r named anew a) m a else r
+
+-- these of its streams are reset by it, and weren't before
+abbrev pub names_anew : ReceiverView → ResetMeaning → (stream : ℕ) → Bool
+names_anew r m s = names r m.streams s && not (was_performed r m)
 
 -- A RESET TAKEN
 abbrev pub reset_taken : ReceiverView → (c : ℕ) → ResetMeaning → ReceiverView
-reset_taken r c m = request_taken r m.number (names r m.streams) (reset_answer r c m)
+reset_taken r c m = request_taken r m (names r m.streams) (names_anew r m) (reset_answer r c m)
 
--- after a request of another kind, which is denied
+-- a request of another kind names no streams
+abbrev pub other_meaning : (number : ℕ) → ResetMeaning
+other_meaning number = record { number = number; last = 0; streams = [] }
+
+-- after one, which is denied
 abbrev pub denied : ReceiverView → (number : ℕ) → ReceiverView
-denied r number = request_taken r number (λ s. false) Denied
+denied r number = request_taken r (other_meaning number) (λ s. false) (λ s. false) Denied
 
 -- ---- responses that wait for a packet
 
@@ -128,7 +166,7 @@ with_answers r xs = record r { resets = record r.resets { answers = xs } }
 
 -- ---- what is reported to the user
 
--- of the messages that wait on a stream, how many were delivered before the last request for it was performed
+-- of the messages that wait on a stream, how many were delivered before it was reset last
 abbrev pub old_waiting : ReceiverView → (stream : ℕ) → ℕ
 old_waiting r s = unwrap_or (r.resets.told s) 0 - length (r.taken s)
 

@@ -96,6 +96,10 @@ response_item number a = record { kind = RECONFIG_RESPONSE; value = u32_bytes nu
 abbrev pub is_done_code : ℕ → Bool
 is_done_code code = (code == 0) || (code == 1)
 
--- in progress
+-- in progress: so another request is (4), or this one (6)
 abbrev pub is_progress_code : ℕ → Bool
-is_progress_code code = code == 6
+is_progress_code code = (code == 4) || (code == 6)
+
+-- its sequence number isn't the one that is expected
+abbrev pub is_number_code : ℕ → Bool
+is_number_code code = code == 5

@@ -6,7 +6,7 @@ use Rattle.sctp_model.specs.end.Clock.{at_moment, closed, with_timer, is_over_at
 use Rattle.sctp_model.specs.end.Clock.{expired_timer}
 use Rattle.sctp_model.specs.end.Moments.{after_abandoning, is_data_due, given_up, due_again, rung, ring, rung_all, all_alarms, waited_in, waited, passed}
 use Rattle.sctp_outcomes.specs.Kept.{IsSound, KeepsLogs, MomentsKeepLogs}
-use Rattle.sctp_outcomes.proofs.logs.Senders.{given_up_keeps, timed_out_keeps}
+use Rattle.sctp_outcomes.proofs.logs.Senders.{given_up_keeps, retried_keeps, timed_out_keeps}
 use Rattle.sctp_outcomes.proofs.logs.Ends.{abandoning_keeps, keeps_itself, keeps_on, same_keeps, sender_keeps}
 use Rattle.sctp_outcomes.proofs.logs.Heard.{moment_keeps}
 
@@ -16,7 +16,7 @@ again_keeps CookieAlarm e s = same_keeps e _ refl refl refl (λ on. on) s
 again_keeps DataAlarm e s = sender_keeps e _ (timed_out_keeps e.sender) refl refl refl s
 again_keeps ShutdownAlarm e s = same_keeps e _ refl refl refl (λ on. on) s
 again_keeps AckAlarm e s = same_keeps e _ refl refl refl (λ on. on) s
-again_keeps ResetAlarm e s = same_keeps e _ refl refl refl (λ on. on) s
+again_keeps ResetAlarm e s = sender_keeps e _ (retried_keeps e.sender) refl refl refl s
 
 rung_keeps : (b : Bool) (a : Alarm) (e : EndView) → IsSound e → KeepsLogs e (rung b a e)
 rung_keeps false a e s = keeps_itself e s

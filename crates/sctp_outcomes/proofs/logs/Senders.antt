@@ -14,6 +14,8 @@ use Rattle.sctp_model.specs.sender.Assigning.{with_entry}
 use Rattle.sctp_model.specs.sender.Abandoning.{Name, name_at, name_of, has_ticket, without, with_abandoned, abandon_after, is_overdue, expire_one, expired, worn, unsettled_at, timed_out}
 use Rattle.sctp_model.specs.sender.Filling.{begun_ticket, begun_tickets}
 use Rattle.sctp_model.specs.end.Moments.{given_up}
+use Rattle.sctp_model.specs.sender.Resetting.{retried}
+use Rattle.sctp_safety.proofs.machine.Reconfigured.{retried_of}
 use Rattle.sctp_model.proofs.sender.WornLaws.{wears_each}
 use Rattle.sctp_model.proofs.sender.AbandonCases.{after_abandon, after_end}
 use Rattle.sctp_outcomes.specs.Kept.{IsNamed}
@@ -144,3 +146,14 @@ new_timed_out k = λ j. record (fresh_sender 0 0 k 0 false) { marked = fun_ext (
 
 pub timed_out_keeps : (v : SenderView) → KeepsNumbers v (timed_out v)
 timed_out_keeps v = record { numbers = refl; named = λ n. n; grown = omega arith; tickets = refl; new = λ k new. subst (λ (x : SenderView). IsNew k (timed_out x)) (sym new) (new_timed_out k) }
+
+-- ---- the timer of a request
+
+pub retried_keeps : (v : SenderView) → KeepsNumbers v (retried v)
+retried_keeps v = let same = (retried_of v).1 in record {
+  numbers = ap (λ (x : SenderView). begun_tickets x.plan x.plan.entries) same;
+  named = λ n. subst (λ (x : SenderView). IsNamed x.plan) (sym same) n;
+  grown = (let q = ap (λ (x : SenderView). length x.plan.entries) same in omega (arith, q));
+  tickets = ap (λ (x : SenderView). x.tickets) same;
+  new = λ k new. subst (λ (x : SenderView). IsNew k (retried x)) (sym new) refl;
+}

@@ -1,6 +1,7 @@
 -- Whatever happens at an endpoint, a request of its own that waits for its answer is due, or its timer runs, while the endpoint is established.
-use Rattle.std.proofs.Common.{ℕ, ◌≡◌, length, is_some, not, ◌||◌, ◌==◌, Bool, true, false, List, [], ◌∷◌, ◌++◌, Option, None, Some, refl, sym, subst, ap, ◌∙◌}
+use Rattle.std.proofs.Common.{ℕ, suc, ◌≡◌, length, is_some, not, ◌||◌, ◌==◌, Bool, true, false, List, [], ◌∷◌, ◌++◌, Option, None, Some, refl, sym, subst, ap, ◌∙◌}
 use Rattle.std.specs.Prelude.{if◌then◌else◌, nat_lt, ◌&&◌, drop}
+use Rattle.sctp_model.specs.numbers.Limits.{REQUEST_LIMIT}
 use Rattle.sctp_model.specs.wire.Packet.{Packet}
 use Rattle.sctp_model.specs.wire.Chunk.{ChunkMeaning, Data, IData, Init, InitAck, Sack, Heartbeat, HeartbeatAck, Abort, Shutdown, ShutdownAck, Error, CookieEcho, CookieAck, ShutdownComplete, ForwardTsn, IForwardTsn, Unknown}
 use Rattle.sctp_model.specs.world.Calls.{Call}
@@ -24,20 +25,20 @@ use Rattle.sctp_model.specs.end.Moments.{after_abandoning, is_data_due, given_up
 use Rattle.sctp_model.specs.end.UserCalls.{is_established, answer_for, send_answer, send_leaves, NotOpen, is_open, abandoned_at, shut_in, shut, AbortAnswer, Aborts, NoPeer, TooLong, abort_leaves, ResetCall, Begun, NotAgreed, NoStream, reset_leaves, told_leaves}
 use Rattle.sctp_safety.proofs.machine.EndWords.{rested_cases, ended_cases}
 use Rattle.sctp_safety.proofs.machine.Sides.{unknown_goes, unknown_ends, unknown_never_replies}
-use Rattle.sctp_model.specs.end.Reconfiguring.{request_heard, other_heard, response_heard, asking_on, in_progress, parameter_heard, parameters_heard, asking_now, asking}
+use Rattle.sctp_model.specs.end.Reconfiguring.{asking_wait, request_heard, other_heard, response_heard, asking_on, in_progress, parameter_heard, parameters_heard, asking_now, asking}
 use Rattle.sctp_model.specs.wire.Typed.{Typed, typed_in}
 use Rattle.sctp_model.specs.numbers.Numbers.{u32_at}
 use Rattle.sctp_model.specs.messages.Format.{Format}
-use Rattle.sctp_model.specs.sender.Outgoing.{Outgoing, Request}
+use Rattle.sctp_model.specs.sender.Outgoing.{LaterNumber, takes_next, Outgoing, Request}
 use Rattle.sctp_model.specs.sender.SackTaken.{sack_taken}
 use Rattle.sctp_model.specs.sender.Words.{count_up}
 use Rattle.sctp_model.specs.sender.Filling.{fill}
-use Rattle.sctp_model.specs.sender.Resetting.{reset_answered, answered_in, is_open_number, may_ask, response_taken}
+use Rattle.sctp_model.specs.sender.Resetting.{numbered_so, retried_in, retried, reset_answered, answered_in, is_open_number, may_ask, response_taken}
 use Rattle.sctp_model.proofs.sender.HeardLaws.{heard_cases}
 use Rattle.sctp_model.proofs.sender.WornLaws.{wears_each}
 use Rattle.sctp_model.proofs.sender.FillLaws.{fill_is_fill}
 use Rattle.sctp_safety.proofs.runs.Sending.{abandon_resets, expire_resets, follows_resets}
-use Rattle.sctp_model.specs.wire.Reconfig.{OUTGOING_RESET, RECONFIG_RESPONSE, reset_read, is_parameter, is_other_request, is_progress_code}
+use Rattle.sctp_model.specs.wire.Reconfig.{OUTGOING_RESET, RECONFIG_RESPONSE, reset_read, is_parameter, is_other_request}
 
 -- ---- an endpoint
 
@@ -118,7 +119,7 @@ restarts now wait (Some m) = refl
 
 progress_goes : (b : Bool) (e : EndView) → IsAskingAt e → IsAskingAt (in_progress b e)
 progress_goes false e r = r
-progress_goes true e r = subst (λ (b : Bool). Goes e.phase (is_some e.sender.resets.pending) e.due.request b) (sym (restarts e.moment (e.timers ResetAlarm).wait (e.timers ResetAlarm).expiry)) r
+progress_goes true e r = subst (λ (b : Bool). Goes e.phase (is_some e.sender.resets.pending) e.due.request b) (sym (restarts e.moment (asking_wait e) (e.timers ResetAlarm).expiry)) r
 
 resting_goes : (e : EndView) → IsAskingAt e → IsAskingAt (asking_on e)
 resting_goes e r = go (is_some e.sender.resets.pending) refl
@@ -141,8 +142,8 @@ response_fewer v number code on = go (is_open_number v number) v.resets.pending 
 response_goes : (e : EndView) (number code : ℕ) → IsAskingAt e → IsAskingAt (response_heard e number code)
 response_goes e number code r =
     let t = record e { sender = response_taken e.sender number code } in
-    let u = in_progress (is_open_number e.sender number && is_progress_code code) t in
-    resting_goes u (progress_goes (is_open_number e.sender number && is_progress_code code) t
+    let u = in_progress (is_open_number e.sender number) t in
+    resting_goes u (progress_goes (is_open_number e.sender number) t
     (fewer e.phase (is_some e.sender.resets.pending) e.due.request (runs (e.timers ResetAlarm)) (is_some (response_taken e.sender number code).resets.pending) e.due.request (runs (e.timers ResetAlarm))
     (λ on. (response_fewer e.sender number code on, refl, refl)) r))
 
@@ -179,7 +180,7 @@ asking_asks e r = go e.terms.reset (is_home ResetAlarm e.phase) (may_ask e.sende
     go false b c is = r
     go true false c is = r
     go true true false is = r
-    go true true true is = at_home e.phase (runs (e.timers ResetAlarm)) is
+    go true true true is = at_home e.phase false is
 
 -- ---- what a sender's calls leave of resets
 
@@ -344,6 +345,18 @@ asking_builds e zs t r (Fills _ _ ys x is puts) =
 
 -- ---- time
 
+-- a request that is retransmitted goes on to wait
+retried_waits : (v : SenderView) → is_some (retried v).resets.pending ≡ is_some v.resets.pending
+retried_waits v = go v.resets.pending refl
+  where
+    by : (q : Request) → v.resets.pending ≡ Some q → (b : Bool) → is_some (if b then numbered_so v (suc v.resets.made) LaterNumber q else v).resets.pending ≡ is_some v.resets.pending
+    by q is true = ap (λ (o : Option Request). is_some o) (sym is)
+    by q is false = refl
+
+    go : (o : Option Request) → v.resets.pending ≡ o → is_some (retried_in v o).resets.pending ≡ is_some v.resets.pending
+    go None is = refl
+    go (Some q) is = by q is (takes_next q.numbering && nat_lt v.resets.made REQUEST_LIMIT)
+
 asking_rung : (b : Bool) (a : Alarm) (e : EndView) → IsAskingAt e → IsAskingAt (rung b a e)
 asking_rung false a e r = r
 asking_rung true InitAlarm e r = either (nat_lt (e.timers InitAlarm).repeats (repeats_of InitAlarm)) _ _ r tt
@@ -352,7 +365,8 @@ asking_rung true DataAlarm e r = either (nat_lt (e.timers DataAlarm).repeats (re
 asking_rung true ShutdownAlarm e r = either (nat_lt (e.timers ShutdownAlarm).repeats (repeats_of ShutdownAlarm)) _ _ r tt
 asking_rung true AckAlarm e r = either (nat_lt (e.timers AckAlarm).repeats (repeats_of AckAlarm)) _ _ r tt
 asking_rung true ResetAlarm e r =
-    either (nat_lt (e.timers ResetAlarm).repeats (repeats_of ResetAlarm)) _ _ (due_or_runs e.phase (is_some e.sender.resets.pending) e.due.request (runs (e.timers ResetAlarm)) true false refl r) tt
+    either (nat_lt (e.timers ResetAlarm).repeats (repeats_of ResetAlarm)) _ _ (subst (λ (w : Bool). Goes e.phase w true false) (sym (retried_waits e.sender))
+        (due_or_runs e.phase (is_some e.sender.resets.pending) e.due.request (runs (e.timers ResetAlarm)) true false refl r)) tt
 
 asking_rung_all : (alarms : List Alarm) (e : EndView) → IsAskingAt e → IsAskingAt (rung_all alarms e)
 asking_rung_all [] e r = r

@@ -1,6 +1,6 @@
 -- What is noted of a reset at a receiver, to be reported, is how many messages had been delivered when a request was performed; and no fewer are delivered
 -- later.
-use Rattle.std.proofs.Common.{◌≡◌, ◌⊎◌, ℕ, zero, suc, ◌≤◌, Bool, true, false, List, [], ◌++◌, length, length-append, Some, inl, inr, refl, sym, subst, ap, ◌∙◌, arith, if◌then◌else◌}
+use Rattle.std.proofs.Common.{◌≡◌, ◌⊎◌, ℕ, zero, suc, ◌≤◌, Bool, true, false, List, [], ◌++◌, length, length-append, Some, inl, inr, refl, sym, subst, ap, ◌∙◌, arith, if◌then◌else◌, not}
 use Rattle.sctp_model.specs.numbers.Lists.{at}
 use Rattle.sctp_model.specs.wire.Typed.{Typed}
 use Rattle.sctp_model.specs.wire.Chunk.{PieceMeaning, ForwardMeaning}
@@ -13,9 +13,10 @@ use Rattle.sctp_model.specs.receiver.Receiving.{Gives, GivesOrdered, GivesAll}
 use Rattle.sctp_model.specs.receiver.Reading.{piece_at}
 use Rattle.sctp_model.specs.receiver.PieceTaken.{PieceAnswer, Duplicate, Ahead, NoSuchStream, Passed, NoRoom, Kept, Leaves, PieceTaken}
 use Rattle.sctp_model.specs.receiver.ForwardTaken.{ForwardAnswer, OutOfDate, Bad, Moved, ForwardLeaves, ForwardTaken}
-use Rattle.sctp_model.specs.receiver.ResetTaken.{names, reset_answer, is_in_turn, with_answer, renumbered_by, request_taken, reset_taken, denied, with_answers}
+use Rattle.sctp_model.specs.receiver.ResetTaken.{names, reset_answer, is_in_turn, with_answer, renumbered_by, request_taken, reset_taken, denied, with_answers, names_anew, was_performed, other_meaning}
 use Rattle.std.specs.Prelude.{◌==◌}
 use Rattle.std.proofs.lemmas.Bool.Decides.{nat_tests}
+use Rattle.std.proofs.lemmas.Bool.{and_parts}
 
 -- One of these requests was performed that names this stream, when this many messages of it had been delivered: no fewer than at first, and no more than at
 -- last.
@@ -27,6 +28,7 @@ pub record IsPerformed (P : ReceiverView → ℕ → ResetMeaning → Type 0) (r
   pub in_turn : is_in_turn receiver request.number ≡ true
   pub performed : reset_answer receiver cumulative request ≡ Performed
   pub named : names receiver request.streams s ≡ true
+  pub anew : was_performed receiver request ≡ false
   pub count : n ≡ length (handed receiver s)
   pub after : length (handed r s) ≤ n
   pub before : n ≤ length (handed t s)
@@ -58,6 +60,7 @@ counts_on {P} r t u a b = record {
       in_turn = p.in_turn;
       performed = p.performed;
       named = p.named;
+      anew = p.anew;
       count = p.count;
       after = p.after;
       before = (let x = p.before in let y = b.grown s in omega (arith, x, y));
@@ -72,6 +75,7 @@ counts_on {P} r t u a b = record {
       in_turn = p.in_turn;
       performed = p.performed;
       named = p.named;
+      anew = p.anew;
       count = p.count;
       before = p.before;
       after = (let x = p.after in let y = a.grown s in omega (arith, x, y));
@@ -99,6 +103,7 @@ counts_among {P} {Q} r t among k = record { grown = k.grown; told = λ s n is. g
       in_turn = p.in_turn;
       performed = p.performed;
       named = p.named;
+      anew = p.anew;
       count = p.count;
       after = p.after;
       before = p.before;
@@ -173,26 +178,30 @@ forward_counts f r m a t came = more_counts r t (by_forward f r came.c m a t cam
 
 -- ---- a request is answered
 
+off_of : (b : Bool) → not b ≡ true → b ≡ false
+off_of true h = absurd (cc)
+off_of false h = refl
+
 -- what a request leaves to be reported
-told_then : (r : ReceiverView) (number : ℕ) (named : ℕ → Bool) (b : Bool) (a : ResetResult) (s n : ℕ) → (if b then with_answer (renumbered_by r named a) number a else r).resets.told s ≡ Some n
-    → (r.resets.told s ≡ Some n) ⊎ ((b ≡ true) × ((a ≡ Performed) × ((named s ≡ true) × (n ≡ length (handed r s)))))
-told_then r number named false a s n is = inl is
-told_then r number named true Performed s n is = by_name (named s) refl is
+told_then : (r : ReceiverView) (m : ResetMeaning) (named anew : ℕ → Bool) (b : Bool) (a : ResetResult) (s n : ℕ) → (if b then with_answer (renumbered_by r named anew a) m a else r).resets.told s ≡ Some n
+    → (r.resets.told s ≡ Some n) ⊎ ((b ≡ true) × ((a ≡ Performed) × ((anew s ≡ true) × (n ≡ length (handed r s)))))
+told_then r m named anew false a s n is = inl is
+told_then r m named anew true Performed s n is = by_name (anew s) refl is
   where
-    by_name : (c : Bool) → named s ≡ c → (if c then Some (length (handed r s)) else r.resets.told s) ≡ Some n
-        → (r.resets.told s ≡ Some n) ⊎ ((true ≡ true) × ((Performed ≡ Performed) × ((named s ≡ true) × (n ≡ length (handed r s)))))
+    by_name : (c : Bool) → anew s ≡ c → (if c then Some (length (handed r s)) else r.resets.told s) ≡ Some n
+        → (r.resets.told s ≡ Some n) ⊎ ((true ≡ true) × ((Performed ≡ Performed) × ((anew s ≡ true) × (n ≡ length (handed r s)))))
     by_name true on here = inr (refl, (refl, (on, sym (cc))))
     by_name false off here = inl here
-told_then r number named true Denied s n is = inl is
-told_then r number named true WrongStream s n is = inl is
-told_then r number named true BadNumber s n is = inl is
-told_then r number named true InProgress s n is = inl is
+told_then r m named anew true Denied s n is = inl is
+told_then r m named anew true WrongStream s n is = inl is
+told_then r m named anew true BadNumber s n is = inl is
+told_then r m named anew true InProgress s n is = inl is
 
 -- nothing is delivered by it
-handed_then : (r : ReceiverView) (number : ℕ) (named : ℕ → Bool) (a : ResetResult) (xs : List Typed) (s : ℕ) → handed (with_answers (request_taken r number named a) xs) s ≡ handed r s
-handed_then r number named a xs s = go (is_in_turn r number) a
+handed_then : (r : ReceiverView) (m : ResetMeaning) (named anew : ℕ → Bool) (a : ResetResult) (xs : List Typed) (s : ℕ) → handed (with_answers (request_taken r m named anew a) xs) s ≡ handed r s
+handed_then r m named anew a xs s = go (is_in_turn r m.number) a
   where
-    go : (b : Bool) (o : ResetResult) → handed (if b then with_answer (renumbered_by r named o) number o else r) s ≡ handed r s
+    go : (b : Bool) (o : ResetResult) → handed (if b then with_answer (renumbered_by r named anew o) m o else r) s ≡ handed r s
     go false o = refl
     go true Performed = refl
     go true Denied = refl
@@ -202,11 +211,11 @@ handed_then r number named a xs s = go (is_in_turn r number) a
 
 pub request_counts : {P : ReceiverView → ℕ → ResetMeaning → Type 0} (r : ReceiverView) (c : ℕ) (m : ResetMeaning) (xs : List Typed) → P r c m → Counts P r (with_answers (reset_taken r c m) xs)
 request_counts {P} r c m xs arrives = record {
-  grown = λ s. (let q = ap length (handed_then r m.number (names r m.streams) (reset_answer r c m) xs s) in omega (arith, q));
-  told = λ s n is. by_told s n (told_then r m.number (names r m.streams) (is_in_turn r m.number) (reset_answer r c m) s n is);
+  grown = λ s. (let q = ap length (handed_then r m (names r m.streams) (names_anew r m) (reset_answer r c m) xs s) in omega (arith, q));
+  told = λ s n is. by_told s n (told_then r m (names r m.streams) (names_anew r m) (is_in_turn r m.number) (reset_answer r c m) s n is);
 }
   where
-    by_told : (s n : ℕ) → (r.resets.told s ≡ Some n) ⊎ ((is_in_turn r m.number ≡ true) × ((reset_answer r c m ≡ Performed) × ((names r m.streams s ≡ true) × (n ≡ length (handed r s)))))
+    by_told : (s n : ℕ) → (r.resets.told s ≡ Some n) ⊎ ((is_in_turn r m.number ≡ true) × ((reset_answer r c m ≡ Performed) × ((names_anew r m s ≡ true) × (n ≡ length (handed r s)))))
         → (r.resets.told s ≡ Some n) ⊎ IsPerformed P r (with_answers (reset_taken r c m) xs) s n
     by_told s n (inl before) = inl before
     by_told s n (inr (turn, (done, (named, count)))) = inr (record {
@@ -216,16 +225,17 @@ request_counts {P} r c m xs arrives = record {
       arrives = arrives;
       in_turn = turn;
       performed = done;
-      named = named;
+      named = (and_parts (names r m.streams s) (not (was_performed r m)) named).0;
+      anew = off_of (was_performed r m) (and_parts (names r m.streams s) (not (was_performed r m)) named).1;
       count = count;
       after = omega (arith, count);
-      before = (let q = ap length (handed_then r m.number (names r m.streams) (reset_answer r c m) xs s) in omega (arith, q, count));
+      before = (let q = ap length (handed_then r m (names r m.streams) (names_anew r m) (reset_answer r c m) xs s) in omega (arith, q, count));
     })
 
 pub denied_counts : {P : ReceiverView → ℕ → ResetMeaning → Type 0} (r : ReceiverView) (number : ℕ) (xs : List Typed) → Counts P r (with_answers (denied r number) xs)
 denied_counts {P} r number xs = record {
-  grown = λ s. (let q = ap length (handed_then r number (λ k. false) Denied xs s) in omega (arith, q));
-  told = λ s n is. by_told s n (told_then r number (λ k. false) (is_in_turn r number) Denied s n is);
+  grown = λ s. (let q = ap length (handed_then r (other_meaning number) (λ k. false) (λ k. false) Denied xs s) in omega (arith, q));
+  told = λ s n is. by_told s n (told_then r (other_meaning number) (λ k. false) (λ k. false) (is_in_turn r number) Denied s n is);
 }
   where
     by_told : (s n : ℕ) → (r.resets.told s ≡ Some n) ⊎ ((is_in_turn r number ≡ true) × ((Denied ≡ Performed) × ((false ≡ true) × (n ≡ length (handed r s)))))

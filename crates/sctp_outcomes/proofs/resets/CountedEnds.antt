@@ -1,10 +1,10 @@
 -- What each event leaves of an endpoint's receiver: what is noted of its resets is of requests performed.
-use Rattle.std.proofs.Common.{◌≡◌, ℕ, Bool, true, false, ◌&&◌, List, [], ◌∷◌, is_some, refl, sym, subst, ap, ◌∙◌, if◌then◌else◌}
+use Rattle.std.proofs.Common.{◌≡◌, ℕ, Bool, true, false, List, [], ◌∷◌, is_some, refl, sym, subst, ap, ◌∙◌, if◌then◌else◌}
 use Rattle.std.specs.Prelude.{drop}
 use Rattle.sctp_model.specs.numbers.Numbers.{u32_at}
 use Rattle.sctp_model.specs.wire.Packet.{Packet}
 use Rattle.sctp_model.specs.wire.Typed.{Typed, typed_in}
-use Rattle.sctp_model.specs.wire.Reconfig.{ResetMeaning, OUTGOING_RESET, RECONFIG_RESPONSE, reset_read, is_parameter, is_other_request, is_progress_code}
+use Rattle.sctp_model.specs.wire.Reconfig.{ResetMeaning, OUTGOING_RESET, RECONFIG_RESPONSE, reset_read, is_parameter, is_other_request}
 use Rattle.sctp_model.specs.wire.Chunk.{ChunkMeaning, Data, IData, Init, InitAck, Sack, Heartbeat, HeartbeatAck, Abort, Shutdown, ShutdownAck, Error, CookieEcho, CookieAck, ShutdownComplete, ForwardTsn, IForwardTsn, Unknown}
 use Rattle.sctp_model.specs.sender.Resetting.{is_open_number, response_taken}
 use Rattle.sctp_model.specs.receiver.ReceiverView.{ReceiverView, handed}
@@ -53,7 +53,7 @@ progress_receiver false e = refl
 response_receiver : (e : EndView) (number code : ℕ) → (response_heard e number code).receiver ≡ e.receiver
 response_receiver e number code =
     let t = record e { sender = response_taken e.sender number code } in
-    let b = is_open_number e.sender number && is_progress_code code in
+    let b = is_open_number e.sender number in
     asking_on_receiver (in_progress b t) ∙ progress_receiver b t
 
 -- the requests of these parameters, all at one cumulative index

@@ -209,6 +209,7 @@ module _ (x : Side) where
           in_turn = p.in_turn;
           performed = p.performed;
           named = p.named;
+          anew = p.anew;
           count = p.count;
           after = p.after;
           before = p.before;

@@ -1,12 +1,12 @@
 -- A stream that is ready is asked for by the next packet, or its request is due still.
-use Rattle.std.proofs.Common.{◌≡◌, ◌⊎◌, ℕ, suc, length, Bool, true, false, ◌&&◌, List, [], ◌∷◌, ◌++◌, Some, inl, inr, refl, sym, subst, ap, ◌∙◌}
+use Rattle.std.proofs.Common.{◌≡◌, ◌⊎◌, ℕ, Bool, true, false, ◌&&◌, List, [], ◌∷◌, ◌++◌, Some, inl, inr, refl, sym, subst, ap, ◌∙◌}
 use Rattle.sctp_model.specs.numbers.Lists.{Has}
 use Rattle.sctp_model.specs.wire.Chunk.{ChunkMeaning}
 use Rattle.sctp_model.specs.wire.Reconfig.{reconfig_chunk, reset_item}
 use Rattle.sctp_model.specs.receiver.ResetTaken.{last_finished}
 use Rattle.sctp_model.specs.sender.Outgoing.{Request}
 use Rattle.sctp_model.specs.sender.SenderView.{SenderView}
-use Rattle.sctp_model.specs.sender.Resetting.{ready, may_ask, asked, request_said}
+use Rattle.sctp_model.specs.sender.Resetting.{next_request, may_ask, asked, request_said}
 use Rattle.sctp_model.specs.end.EndView.{Tags, Established, Phase, Open, Calling, Echoing, ResetAlarm, EndView, format_of, has_association}
 use Rattle.sctp_model.specs.end.Clock.{is_home}
 use Rattle.sctp_model.specs.end.Reconfiguring.{asking, asking_now}
@@ -109,7 +109,7 @@ is_open_slot = inr (inr (inr (inr (inr (inr (inl refl))))))
 
 -- the request that an endpoint makes
 abbrev request_of : EndView → Request
-request_of e = record { first = suc e.sender.resets.made; last = length e.sender.plan.entries; streams = ready e.sender }
+request_of e = next_request e.sender
 
 -- it is made before the packet is built
 makes : (e : EndView) (tags : Tags) → e.phase ≡ Open tags Established → e.terms.reset ≡ true → may_ask e.sender ≡ true → asking e ≡ asking_now true e

@@ -4,12 +4,12 @@ use Rattle.sctp_model.specs.messages.Format.{Plain, ordered_lane}
 use Rattle.sctp_model.specs.wire.Typed.{written_typed}
 use Rattle.sctp_model.specs.wire.Reconfig.{ResetMeaning, Performed, WrongStream, BadNumber, InProgress, reset_item, reset_read, response_item}
 use Rattle.sctp_model.specs.sender.SenderView.{SenderView, fresh_sender}
-use Rattle.sctp_model.specs.sender.Outgoing.{Sends, Resets, Refuses}
+use Rattle.sctp_model.specs.sender.Outgoing.{Sends, Resets, Refuses, FirstNumber}
 use Rattle.sctp_model.specs.sender.Queueing.{Resetting, queued, refusal}
 use Rattle.sctp_model.specs.sender.Filling.{fill}
 use Rattle.sctp_model.specs.sender.SackTaken.{sack_after}
 use Rattle.sctp_model.specs.sender.PieceSaid.{number_said}
-use Rattle.sctp_model.specs.sender.Resetting.{resetting, may_ask, asked, request_said, response_taken}
+use Rattle.sctp_model.specs.sender.Resetting.{resetting, may_ask, asked, named_next, retried, request_said, response_taken}
 use Rattle.sctp_model.specs.receiver.ReceiverView.{Handed, ReceiverView, fresh_receiver}
 use Rattle.sctp_model.specs.receiver.ResetTaken.{reset_answer, answer_in_turn, reset_taken, old_waiting, told_of}
 use Rattle.sctp_model.specs.end.EndView.{EndView, ResetAlarm, unused_timer}
@@ -38,19 +38,19 @@ abbrev asks : SenderView
 asks = asked (resetting acknowledged 0)
 
 -- number 1, the last TSN assigned is 1, stream 0
-request : asks.resets.pending ≡ Some (record { first = 1; last = 1; streams = 0 ∷ [] })
+request : asks.resets.pending ≡ Some (record { first = 1; last = 1; streams = 0 ∷ []; numbering = FirstNumber })
 request = refl
 
-said : request_said asks (record { first = 1; last = 1; streams = 0 ∷ [] }) ≡ record { number = 1; last = 1; streams = 0 ∷ [] }
+said : request_said asks (record { first = 1; last = 1; streams = 0 ∷ []; numbering = FirstNumber }) ≡ record { number = 1; last = 1; streams = 0 ∷ [] }
 said = refl
 
 -- in bytes, if the peer's initial TSN is 1 and it has asked for nothing
-bytes : written_typed (reset_item 0 (request_said asks (record { first = 1; last = 1; streams = 0 ∷ [] })) ∷ []) ≡ 0 ∷ 13 ∷ 0 ∷ 18 ∷ 0 ∷ 0 ∷ 0 ∷ 1 ∷ 0 ∷ 0 ∷ 0 ∷ 0 ∷ 0 ∷ 0 ∷ 0 ∷ 1 ∷ 0 ∷ 0 ∷ []
+bytes : written_typed (reset_item 0 (request_said asks (record { first = 1; last = 1; streams = 0 ∷ []; numbering = FirstNumber })) ∷ []) ≡ 0 ∷ 13 ∷ 0 ∷ 18 ∷ 0 ∷ 0 ∷ 0 ∷ 1 ∷ 0 ∷ 0 ∷ 0 ∷ 0 ∷ 0 ∷ 0 ∷ 0 ∷ 1 ∷ 0 ∷ 0 ∷ []
 unfolding u16_bytes u32_bytes u16_at u32_at
 bytes = refl
 
 -- with nothing ever sent the last TSN is the one before the first
-empty : request_said (asked (resetting (fresh_sender 1 1 1400 65536 false) 0)) (record { first = 1; last = 0; streams = 0 ∷ [] }) ≡ record { number = 1; last = 0; streams = 0 ∷ [] }
+empty : request_said (asked (resetting (fresh_sender 1 1 1400 65536 false) 0)) (record { first = 1; last = 0; streams = 0 ∷ []; numbering = FirstNumber }) ≡ record { number = 1; last = 0; streams = 0 ∷ [] }
 empty = refl
 
 -- ---- its answer
@@ -59,9 +59,44 @@ empty = refl
 done : ((response_taken asks 1 1).resets.pending ≡ None) × ((response_taken asks 1 1).resets.sending 0 ≡ Sends) × (number_said Plain (response_taken asks 1 1).resets.base (ordered_lane 0) 1 ≡ 0) × (number_said Plain (response_taken asks 1 1).resets.base (ordered_lane 1) 1 ≡ 1)
 done = (refl, refl, refl, refl)
 
--- there was nothing to do: the same; refused: it stays shut; in progress: asked for under the next number; of another request: nothing
-others : ((response_taken asks 1 0).resets.sending 0 ≡ Sends) × ((response_taken asks 1 2).resets.sending 0 ≡ Refuses) × ((response_taken asks 1 6).resets.made ≡ 2) × ((response_taken asks 1 6).resets.sending 0 ≡ Resets) × ((response_taken asks 7 1).resets.made ≡ 1) × ((response_taken asks 7 1).resets.sending 0 ≡ Resets)
-others = (refl, refl, refl, refl, refl, refl)
+-- there was nothing to do: the same; refused: it stays shut; of another request: nothing
+others : ((response_taken asks 1 0).resets.sending 0 ≡ Sends) × ((response_taken asks 1 2).resets.sending 0 ≡ Refuses) × ((response_taken asks 7 1).resets.made ≡ 1) × ((response_taken asks 7 1).resets.sending 0 ≡ Resets)
+others = (refl, refl, refl, refl)
+
+-- in progress, or another one is: it keeps its number, until its timer retransmits it under the next one; one that isn't in progress keeps it then, too
+abbrev kept : SenderView
+kept = response_taken asks 1 6
+
+in_progress : (kept.resets.made ≡ 1) × (kept.resets.sending 0 ≡ Resets) × (response_taken asks 1 4 ≡ kept) × ((retried kept).resets.made ≡ 2) × (retried asks ≡ asks)
+in_progress = (refl, refl, refl, refl, refl)
+
+-- success under its number counts before that, and not after it
+in_time : ((response_taken kept 1 1).resets.sending 0 ≡ Sends) × (response_taken (retried kept) 1 1 ≡ retried kept) × ((response_taken (retried kept) 2 1).resets.sending 0 ≡ Sends)
+in_time = (refl, refl, refl)
+
+-- a peer that doesn't count what is in progress refuses the next number: the one before is tried again, and kept until it is in progress again; refused again, or
+-- refused at once, it is over
+abbrev back : SenderView
+back = response_taken (retried kept) 2 5
+
+uncounted : (back.resets.made ≡ 1) × (back.resets.sending 0 ≡ Resets) × ((retried back).resets.made ≡ 1) × ((retried (response_taken back 1 6)).resets.made ≡ 2) × ((response_taken back 1 1).resets.sending 0 ≡ Sends)
+    × ((response_taken back 1 5).resets.sending 0 ≡ Refuses) × ((response_taken asks 1 5).resets.sending 0 ≡ Refuses)
+uncounted = (refl, refl, refl, refl, refl, refl, refl)
+
+-- in progress under two numbers at a peer that counts neither: it goes back to the first one by one, and there the peer performs it
+abbrev two_back : SenderView
+two_back = response_taken (retried (response_taken (retried kept) 2 6)) 3 5
+
+uncounted_twice : (two_back.resets.made ≡ 2) × ((response_taken two_back 2 5).resets.made ≡ 1) × ((response_taken (response_taken two_back 2 5) 1 1).resets.sending 0 ≡ Sends)
+    × ((response_taken (response_taken two_back 2 5) 1 5).resets.sending 0 ≡ Refuses)
+uncounted_twice = (refl, refl, refl, refl)
+
+-- the next request for the same stream, with nothing sent between, names it twice; the one after that once
+abbrev once_more : SenderView → SenderView
+once_more v = asked (resetting (response_taken v v.resets.made 1) 0)
+
+named : named_next (resetting (response_taken asks 1 1) 0) ∷ named_next (resetting (response_taken (once_more asks) 2 1) 0) ∷ [] ≡ (0 ∷ 0 ∷ []) ∷ (0 ∷ []) ∷ []
+named = refl
 
 -- answered, its timer is as if it had never run: its expiries don't count for the next request
 calm : (e : EndView) → (response_heard (record e { sender = asks }) 1 1).timers ResetAlarm ≡ unused_timer
@@ -87,6 +122,21 @@ in_turn = refl
 -- afresh
 taken : ((reset_taken fresh 1 (of 1 1 (0 ∷ []))).resets.taken ≡ 1) × ((reset_taken fresh 1 (of 1 1 (0 ∷ []))).resets.told 0 ≡ Some 0) × ((reset_taken fresh 1 (of 1 1 (0 ∷ []))).resets.told 1 ≡ None) × (answer_in_turn (reset_taken fresh 1 (of 1 1 (0 ∷ []))) 1 InProgress ≡ Performed) × (answer_in_turn (reset_taken fresh 0 (of 1 1 (0 ∷ []))) 1 Performed ≡ Performed)
 taken = (refl, refl, refl, refl, refl)
+
+-- in progress, performed under the same number, and retried with the next one before its sender knew: it is to be reported once
+abbrev delayed : ReceiverView
+delayed = reset_taken (reset_taken fresh 0 (of 1 1 (0 ∷ []))) 1 (of 1 1 (0 ∷ []))
+
+abbrev retaken : ReceiverView
+retaken = reset_taken (told_of delayed 0) 1 (of 2 1 (0 ∷ []))
+
+once : (delayed.resets.told 0 ≡ Some 0) × (retaken.resets.taken ≡ 2) × (retaken.resets.result ≡ Performed) × (retaken.resets.told 0 ≡ None)
+once = (refl, refl, refl, refl)
+
+-- a reset of its own, which names the stream twice, or is up to another TSN, is reported
+other_ones : ((reset_taken (told_of delayed 0) 1 (of 2 1 (0 ∷ 0 ∷ []))).resets.told 0 ≡ Some 0) × ((reset_taken (told_of delayed 0) 1 (of 2 0 (0 ∷ []))).resets.told 0 ≡ Some 0)
+    × ((reset_taken retaken 1 (of 3 1 (0 ∷ []))).resets.told 0 ≡ Some 0)
+other_ones = (refl, refl, refl)
 
 -- three were delivered before it, of which the user took one: two are reported to it; once it took another, and one more arrived, one; of those that arrive
 -- after it none counts; the next request counts them all

@@ -1,12 +1,13 @@
 -- What handling requests leaves of resets.
-use Rattle.std.specs.Prelude.{◌≡◌, ℕ, ◌==◌, ◌<◌, Bool, List, [], map, Some}
+use Rattle.std.specs.Prelude.{◌≡◌, ℕ, ◌==◌, ◌<◌, ◌≤◌, Bool, List, [], length, map, Some, vec_capacity}
 use Rattle.std.specs.declared.alloc.Global.{Global}
 use Rattle.std.specs.declared.vec.Vec.{Vec}
 use Rattle.sctp_model.specs.numbers.Lists.{Has}
 use Rattle.sctp_model.specs.numbers.Serial.{tsn}
 use Rattle.sctp_model.specs.messages.Format.{Format}
+use Rattle.sctp_model.specs.wire.Reconfig.{ResetMeaning, ResetResult, Performed}
 use Rattle.sctp_model.specs.receiver.ReceiverView.{ReceiverView}
-use Rattle.sctp_reconfig.specs.Reading.{ParameterMeaning}
+use Rattle.sctp_reconfig.specs.Reading.{ParameterMeaning, ListsAtMost, ListAtMost}
 use Rattle.sctp_recv.specs.declared.resets.Resets.{Resets}
 use Rattle.sctp_recv.specs.declared.stream.Stream.{Stream}
 use Rattle.sctp_recv.specs.Fields.{stream_of}
@@ -14,7 +15,7 @@ use Rattle.sctp_recv.specs.ReceiverKept.{ReceiverKept}
 use Rattle.sctp_recv.specs.Requests.{requested, all_requested}
 use Rattle.sctp_recv.specs.Resets.{resets_of, KeepsResets}
 use Rattle.sctp_recv.specs.StandsFor.{KeepsView}
-use Rattle.sctp_recv.specs.inner.Restarting.{HasSpace}
+use Rattle.sctp_recv.specs.inner.Restarting.{HasSpace, acted}
 
 -- the stream is this one
 abbrev pub is_same : (stream : ℕ) → ℕ → Bool
@@ -32,15 +33,28 @@ pub record IsBefore {F : Type 0} (f : Format) (all : Vec (Stream F) Global) (wir
   pub cumulative : wire ≡ tsn v.initial c
   pub space : HasSpace limit own
 
--- the resets are those of the view after the parameter
+-- What is kept before a request in its turn acts, of a view, and its streams, for which there is capacity: they exist if it is performed.
+pub record IsInTurn {F : Type 0} (f : Format) (all : Vec (Stream F) Global) (own : Resets) (k : ReceiverKept) (v : ReceiverView) (named : List ℕ) (a : ResetResult) : Type 0 where
+  pub keeps : KeepsView f k v
+  pub resets : k.resets ≡ Some (resets_of own)
+  pub streams : k.streams ≡ map stream_of all.items
+  pub low : a ≡ Performed → AreLow v.streams named
+  pub room : length named ≤ vec_capacity own.named
+
+-- the resets are those of the view once a request in its turn acted, with this result
+abbrev pub ActsInTurn : {F : Type 0} → Format → Vec (Stream F) Global → (old new : Resets) → ResetMeaning → ResetResult → Type 0
+ActsInTurn f streams old new m a = (k : ReceiverKept) (v : ReceiverView) → IsInTurn f streams old k v m.streams a →
+    KeepsResets f (Some (resets_of new)) v.initial v.streams v.taken (acted v m a).resets
+
+-- the resets are those of the view after the parameter, if there is capacity for its streams
 abbrev pub StandsInPart : {F : Type 0} → Format → Vec (Stream F) Global → (cumulative limit : ℕ) → (old new : Resets) → ParameterMeaning → Type 0
-StandsInPart f streams cumulative limit old new p = (k : ReceiverKept) (v : ReceiverView) (c : ℕ) → IsBefore f streams cumulative limit old k v c →
-    KeepsResets f (Some (resets_of new)) v.initial v.streams v.taken (requested limit c v p).resets
+StandsInPart f streams cumulative limit old new p = (k : ReceiverKept) (v : ReceiverView) (c n : ℕ) → IsBefore f streams cumulative limit old k v c →
+    ListsAtMost n p → n ≤ vec_capacity old.named → KeepsResets f (Some (resets_of new)) v.initial v.streams v.taken (requested limit c v p).resets
 
 -- the same of all parameters
 abbrev pub StandInPart : {F : Type 0} → Format → Vec (Stream F) Global → (cumulative limit : ℕ) → (old new : Resets) → List ParameterMeaning → Type 0
-StandInPart f streams cumulative limit old new ps = (k : ReceiverKept) (v : ReceiverView) (c : ℕ) → IsBefore f streams cumulative limit old k v c →
-    KeepsResets f (Some (resets_of new)) v.initial v.streams v.taken (all_requested limit c v ps).resets
+StandInPart f streams cumulative limit old new ps = (k : ReceiverKept) (v : ReceiverView) (c n : ℕ) → IsBefore f streams cumulative limit old k v c →
+    ListAtMost n ps → n ≤ vec_capacity old.named → KeepsResets f (Some (resets_of new)) v.initial v.streams v.taken (all_requested limit c v ps).resets
 
 -- ---- without a request
 

@@ -1,17 +1,19 @@
 -- What a RE-CONFIG leaves of an endpoint: all but what its sender and its receiver know of resets, what is due of them, and their timer.
-use Rattle.std.proofs.Common.{◌≡◌, ℕ, Bool, true, false, ◌&&◌, List, [], ◌∷◌, Option, None, Some, refl, ap, ◌∙◌, if◌then◌else◌, is_some}
+use Rattle.std.proofs.Common.{◌≡◌, ℕ, suc, nat_lt, Bool, true, false, ◌&&◌, List, [], ◌∷◌, Option, None, Some, refl, ap, ◌∙◌, if◌then◌else◌, is_some}
 use Rattle.std.specs.Prelude.{drop}
+use Rattle.sctp_model.specs.numbers.Limits.{REQUEST_LIMIT}
 use Rattle.sctp_model.specs.numbers.Numbers.{u32_at}
 use Rattle.sctp_model.specs.wire.Typed.{Typed}
-use Rattle.sctp_model.specs.wire.Reconfig.{OUTGOING_RESET, RECONFIG_RESPONSE, ResetResult, Performed, Denied, WrongStream, BadNumber, InProgress, reset_read, is_parameter, is_other_request, response_item, is_done_code, is_progress_code}
-use Rattle.sctp_model.specs.sender.Outgoing.{Outgoing, Request}
+use Rattle.sctp_model.specs.wire.Reconfig.{OUTGOING_RESET, RECONFIG_RESPONSE, ResetResult, Performed, Denied, WrongStream, BadNumber, InProgress, reset_read, is_parameter, is_other_request, response_item, is_done_code, is_progress_code, is_number_code, ResetMeaning}
+use Rattle.sctp_model.specs.sender.Outgoing.{Outgoing, Request, LaterNumber, takes_next, is_later}
 use Rattle.sctp_model.specs.sender.SenderView.{SenderView}
-use Rattle.sctp_model.specs.sender.Resetting.{with_resets, reset_done, reset_refused, asked_again, reset_answered, answered_in, is_open_number, may_ask, response_taken}
+use Rattle.sctp_model.specs.sender.Resetting.{with_resets, reset_done, reset_refused, kept_asking, number_back, numbered_so, retried_in, retried, reset_answered, answered_in, is_open_number, may_ask, response_taken}
 use Rattle.sctp_model.specs.receiver.Incoming.{Incoming}
 use Rattle.sctp_model.specs.receiver.ReceiverView.{ReceiverView}
-use Rattle.sctp_model.specs.receiver.ResetTaken.{names, reset_answer, is_in_turn, answer_in_turn, renumbered_by, request_taken, reset_taken, denied, with_answer, with_answers}
+use Rattle.sctp_model.specs.receiver.ResetTaken.{names, reset_answer, is_in_turn, answer_in_turn, renumbered_by, request_taken, reset_taken, denied, with_answer, with_answers, names_anew, other_meaning}
 use Rattle.sctp_model.specs.end.EndView.{ShutdownAlarm, AckAlarm, ResetAlarm, EndView, DataAlarm, unused_timer}
 use Rattle.sctp_model.specs.end.Closing.{with_due}
+use Rattle.sctp_model.specs.end.Moments.{due_again}
 use Rattle.sctp_model.specs.end.Clock.{is_home, with_timer}
 use Rattle.sctp_model.specs.end.Reconfiguring.{answers_with, request_heard, other_heard, response_heard, asking_on, in_progress, parameter_heard, parameters_heard, asking_now, asking}
 
@@ -26,12 +28,25 @@ abbrev pub IsResetIn : ReceiverView → ReceiverView → Type 0
 IsResetIn r s = (x : Incoming) × (s ≡ record r { resets = x })
 
 answered_of : (v : SenderView) (code : ℕ) (q : Request) → IsResetOf v (reset_answered v code q)
-answered_of v code q = go (is_done_code code) (is_progress_code code)
+answered_of v code q = go (is_done_code code) (is_progress_code code) (is_number_code code && is_later q.numbering)
   where
-    go : (b d : Bool) → IsResetOf v (if b then reset_done v q else if d then asked_again v else reset_refused v q)
-    go true d = ((reset_done v q).resets, refl)
-    go false true = ((asked_again v).resets, refl)
-    go false false = ((reset_refused v q).resets, refl)
+    go : (b d w : Bool) → IsResetOf v (if b then reset_done v q else if d then kept_asking v q else if w then number_back v q else reset_refused v q)
+    go true d w = ((reset_done v q).resets, refl)
+    go false true w = ((kept_asking v q).resets, refl)
+    go false false true = ((number_back v q).resets, refl)
+    go false false false = ((reset_refused v q).resets, refl)
+
+-- a request that is retransmitted
+pub retried_of : (v : SenderView) → IsResetOf v (retried v)
+retried_of v = go v.resets.pending
+  where
+    by : (q : Request) (b : Bool) → IsResetOf v (if b then numbered_so v (suc v.resets.made) LaterNumber q else v)
+    by q true = ((numbered_so v (suc v.resets.made) LaterNumber q).resets, refl)
+    by q false = (v.resets, refl)
+
+    go : (o : Option Request) → IsResetOf v (retried_in v o)
+    go None = (v.resets, refl)
+    go (Some q) = by q (takes_next q.numbering && nat_lt v.resets.made REQUEST_LIMIT)
 
 pub response_of : (v : SenderView) (number code : ℕ) → IsResetOf v (response_taken v number code)
 response_of v number code = go (is_open_number v number) v.resets.pending
@@ -41,16 +56,16 @@ response_of v number code = go (is_open_number v number) v.resets.pending
     go true None = (v.resets, refl)
     go true (Some q) = answered_of v code q
 
-pub taken_in : (r : ReceiverView) (number : ℕ) (named : ℕ → Bool) (a : ResetResult) → IsResetIn r (request_taken r number named a)
-taken_in r number named a = go (is_in_turn r number) a
+pub taken_in : (r : ReceiverView) (m : ResetMeaning) (named anew : ℕ → Bool) (a : ResetResult) → IsResetIn r (request_taken r m named anew a)
+taken_in r m named anew a = go (is_in_turn r m.number) a
   where
-    go : (b : Bool) (x : ResetResult) → IsResetIn r (if b then with_answer (renumbered_by r named x) number x else r)
+    go : (b : Bool) (x : ResetResult) → IsResetIn r (if b then with_answer (renumbered_by r named anew x) m x else r)
     go false x = (r.resets, refl)
-    go true Performed = ((with_answer (renumbered_by r named Performed) number Performed).resets, refl)
-    go true Denied = ((with_answer r number Denied).resets, refl)
-    go true WrongStream = ((with_answer r number WrongStream).resets, refl)
-    go true BadNumber = ((with_answer r number BadNumber).resets, refl)
-    go true InProgress = ((with_answer r number InProgress).resets, refl)
+    go true Performed = ((with_answer (renumbered_by r named anew Performed) m Performed).resets, refl)
+    go true Denied = ((with_answer r m Denied).resets, refl)
+    go true WrongStream = ((with_answer r m WrongStream).resets, refl)
+    go true BadNumber = ((with_answer r m BadNumber).resets, refl)
+    go true InProgress = ((with_answer r m InProgress).resets, refl)
 
 -- and with these answers
 pub waiting_in : (r s : ReceiverView) (xs : List Typed) → IsResetIn r s → IsResetIn r (with_answers s xs)
@@ -126,6 +141,24 @@ of_sender e v is = record {
   receiver = (e.receiver.resets, refl);
 }
 
+-- its timer expires, and a request is retransmitted
+pub again_same : (e : EndView) → IsReconfigured e (due_again ResetAlarm e)
+again_same e = record {
+  configuration = refl;
+  role = refl;
+  phase = refl;
+  moment = refl;
+  terms = refl;
+  shutdown = refl;
+  ack = refl;
+  shutdown_timer = refl;
+  ack_timer = refl;
+  data_timer = refl;
+  pace = refl;
+  sender = retried_of e.sender;
+  receiver = (e.receiver.resets, refl);
+}
+
 progress_same : (b : Bool) (e : EndView) → IsReconfigured e (in_progress b e)
 progress_same false e = reconfigured_same e
 progress_same true e = record {
@@ -168,9 +201,9 @@ asking_on_same e = go (is_some e.sender.resets.pending)
 response_same : (e : EndView) (number code : ℕ) → IsReconfigured e (response_heard e number code)
 response_same e number code =
     let t = record e { sender = response_taken e.sender number code } in
-    let u = in_progress (is_open_number e.sender number && is_progress_code code) t in
+    let u = in_progress (is_open_number e.sender number) t in
     reconfigured_on e t (asking_on u) (of_sender e (response_taken e.sender number code) (response_of e.sender number code))
-    (reconfigured_on t u (asking_on u) (progress_same (is_open_number e.sender number && is_progress_code code) t) (asking_on_same u))
+    (reconfigured_on t u (asking_on u) (progress_same (is_open_number e.sender number) t) (asking_on_same u))
 
 pub parameter_same : (c : ℕ) (e : EndView) (x : Typed) → IsReconfigured e (parameter_heard c e x)
 parameter_same c e x = go (is_parameter OUTGOING_RESET 12 x) (is_parameter RECONFIG_RESPONSE 8 x) (is_other_request x)
@@ -189,7 +222,7 @@ parameter_same c e x = go (is_parameter OUTGOING_RESET 12 x) (is_parameter RECON
       data_timer = refl;
       pace = refl;
       sender = (e.sender.resets, refl);
-      receiver = let m = reset_read x in waiting_in e.receiver (reset_taken e.receiver c m) (answers_with e (response_item m.number (answer_in_turn e.receiver m.number (reset_answer e.receiver c m)))) (taken_in e.receiver m.number (names e.receiver m.streams) (reset_answer e.receiver c m));
+      receiver = let m = reset_read x in waiting_in e.receiver (reset_taken e.receiver c m) (answers_with e (response_item m.number (answer_in_turn e.receiver m.number (reset_answer e.receiver c m)))) (taken_in e.receiver m (names e.receiver m.streams) (names_anew e.receiver m) (reset_answer e.receiver c m));
     }
     go false true d = response_same e (u32_at x.value) (u32_at (drop 4 x.value))
     go false false true = record {
@@ -205,7 +238,7 @@ parameter_same c e x = go (is_parameter OUTGOING_RESET 12 x) (is_parameter RECON
       data_timer = refl;
       pace = refl;
       sender = (e.sender.resets, refl);
-      receiver = let n = u32_at x.value in waiting_in e.receiver (denied e.receiver n) (answers_with e (response_item n (answer_in_turn e.receiver n Denied))) (taken_in e.receiver n (λ s. false) Denied);
+      receiver = let n = u32_at x.value in waiting_in e.receiver (denied e.receiver n) (answers_with e (response_item n (answer_in_turn e.receiver n Denied))) (taken_in e.receiver (other_meaning n) (λ s. false) (λ s. false) Denied);
     }
     go false false false = reconfigured_same e
 

@@ -4,7 +4,7 @@ use Rattle.std.specs.Prelude.{drop}
 use Rattle.std.proofs.lemmas.Bool.{and_parts}
 use Rattle.sctp_model.specs.numbers.Numbers.{u32_at}
 use Rattle.sctp_model.specs.wire.Typed.{Typed, typed_in}
-use Rattle.sctp_model.specs.wire.Reconfig.{RECONFIG, OUTGOING_RESET, RECONFIG_RESPONSE, ResetMeaning, reset_read, is_parameter, is_other_request, response_item, reconfig_chunk, is_progress_code}
+use Rattle.sctp_model.specs.wire.Reconfig.{RECONFIG, OUTGOING_RESET, RECONFIG_RESPONSE, ResetMeaning, reset_read, is_parameter, is_other_request, response_item, reconfig_chunk}
 use Rattle.sctp_model.specs.sender.Resetting.{is_open_number, response_taken}
 use Rattle.sctp_model.specs.receiver.ResetTaken.{reset_answer, answer_in_turn, reset_taken, with_answers}
 use Rattle.sctp_model.specs.end.Reports.{fits_alone}
@@ -136,8 +136,8 @@ module _ (p : EndView) (u v : Asked) (out back : List Dated) (many : ℕ) where
       let code = u32_at (drop 4 x.value) in
       let t = record e { sender = response_taken e.sender n code } in
       let same = response_of e.sender n code in
-      asking_on_still (in_progress (is_open_number e.sender n && is_progress_code code) t)
-      (in_progress_still (is_open_number e.sender n && is_progress_code code) t
+      asking_on_still (in_progress (is_open_number e.sender n) t)
+      (in_progress_still (is_open_number e.sender n) t
       (with_sender e (response_taken e.sender n code) m (ap (λ (a : SenderView). a.plan) same.1)
       (after_response (format_of e) e.terms.outbound e.sender u p.receiver out back m.met.going x answer)))
 

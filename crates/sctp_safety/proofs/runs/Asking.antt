@@ -1,5 +1,5 @@
 -- A request to reset streams that an endpoint makes, what its user asks for, and what the answer leaves (RFC 6525, 5.1).
-use Rattle.std.proofs.Common.{◌≡◌, ℕ, zero, suc, ◌+◌, ◌-◌, ◌<◌, ◌≤◌, ◌==◌, ◌&&◌, not, nat_lt, Bool, true, false, List, [], ◌∷◌, length, slice_get, Option, None, Some, inl, inr, refl, sym, subst, ap, arith, ◌∙◌, eqb-true, if◌then◌else◌, is_some, le_refl}
+use Rattle.std.proofs.Common.{◌≡◌, ℕ, zero, suc, ◌+◌, ◌-◌, ◌<◌, ◌≤◌, ◌==◌, ◌&&◌, ◌||◌, not, nat_lt, Bool, true, false, List, [], ◌∷◌, length, slice_get, Option, None, Some, inl, inr, refl, sym, subst, ap, arith, ◌∙◌, eqb-true, if◌then◌else◌, is_some, le_refl}
 use Rattle.std.specs.Prelude.{drop, take, filter, min}
 use Rattle.std.specs.List.{list_any}
 use Rattle.std.proofs.lemmas.Bool.{cases_lt, and_parts, or_parts, or_cases}
@@ -9,15 +9,15 @@ use Rattle.sctp_model.specs.numbers.Lists.{Has, at}
 use Rattle.sctp_model.specs.numbers.Numbers.{u32_at}
 use Rattle.sctp_model.specs.numbers.Serial.{tsn}
 use Rattle.sctp_model.specs.wire.Typed.{Typed}
-use Rattle.sctp_model.specs.wire.Reconfig.{ResetResult, Performed, Denied, WrongStream, BadNumber, InProgress, result_code, is_done_code, is_progress_code}
+use Rattle.sctp_model.specs.wire.Reconfig.{ResetResult, Performed, Denied, WrongStream, BadNumber, InProgress, result_code, is_done_code, is_progress_code, is_number_code}
 use Rattle.sctp_model.specs.messages.Format.{Format, Lane}
 use Rattle.sctp_model.specs.messages.Plan.{Entry, Part, End, entry_at, IsOf}
-use Rattle.sctp_model.specs.sender.Outgoing.{Sending, Sends, Resets, Refuses, is_sending, is_resetting, lists, Request, Outgoing}
+use Rattle.sctp_model.specs.sender.Outgoing.{Sending, Sends, Resets, Refuses, is_sending, is_resetting, lists, Numbering, FirstNumber, NextNumber, LaterNumber, takes_next, is_later, Request, Outgoing}
 use Rattle.sctp_model.specs.sender.SenderView.{SenderView}
 use Rattle.sctp_model.specs.sender.Words.{count_up}
 use Rattle.sctp_model.specs.sender.Entries.{entry_lane, continued}
 use Rattle.sctp_model.specs.sender.Assigning.{is_on}
-use Rattle.sctp_model.specs.sender.Resetting.{with_resets, resetting, has_past, is_still_on, is_ready, ready, has_stream, may_ask, asked, rebased, reset_done, reset_refused, asked_again, answered_in, is_open_number, response_taken}
+use Rattle.sctp_model.specs.sender.Resetting.{with_resets, resetting, has_past, is_still_on, is_ready, ready, has_stream, may_ask, was_said, first_twice, named_next, next_request, asked, numbered_so, retried_in, retried, rebased, reset_done, reset_refused, kept_asking, number_back, answered_in, is_open_number, response_taken}
 use Rattle.sctp_model.specs.sender.Reached.{Rebases}
 use Rattle.sctp_model.specs.receiver.ReceiverView.{ReceiverView}
 use Rattle.sctp_model.specs.world.Calls.{Asked}
@@ -31,7 +31,7 @@ use Rattle.sctp_safety.proofs.runs.Dates.{Dated}
 use Rattle.sctp_safety.proofs.runs.Direction.{way_of, Readably, Askedly, Direction, more_same, said_later}
 use Rattle.sctp_safety.proofs.runs.Sending.{good_here}
 use Rattle.sctp_safety.proofs.runs.StillStreams.{IsOld}
-use Rattle.sctp_safety.proofs.runs.ResetFacts.{IsAnsweredBy, IsOpen, AreEven, AreInStep, one_number}
+use Rattle.sctp_safety.proofs.runs.ResetFacts.{IsAnsweredBy, IsOpen, AreEven, IsKept, AreInStep, one_number, IsNotedDone}
 
 -- ---- a sender that knows something else of resets
 
@@ -59,6 +59,15 @@ sender_reset f n a u r out back d x step reads asks = record {
 lists_has : (xs : List ℕ) (s : ℕ) → lists xs s ≡ true → Has xs s
 lists_has [] s h = absurd (cc)
 lists_has (x ∷ xs) s h = elim (or_cases (x == s) (lists xs s) h) [ inl same ↦ inl (eqb-true x s same) | inr more ↦ inr (lists_has xs s more) ]
+
+has_lists : (xs : List ℕ) (s : ℕ) → Has xs s → lists xs s ≡ true
+has_lists [] s h = absurd h
+has_lists (x ∷ xs) s (inl e) = let on : (x == s) ≡ true = grind (arith, nat_tests, e) in rw on refl
+has_lists (x ∷ xs) s (inr h) = go (x == s) (has_lists xs s h)
+  where
+    go : (b : Bool) → lists xs s ≡ true → (b || lists xs s) ≡ true
+    go true on = refl
+    go false on = on
 
 has_take : {A : Type 0} (n : ℕ) (xs : List A) (x : A) → Has (take n xs) x → Has xs x
 has_take zero xs x h = absurd h
@@ -107,7 +116,44 @@ module _ (f : Format) (n : ℕ) (a : SenderView) (u : Asked) (r : ReceiverView) 
   made = d.step.answered free
 
   abbrev q : Request
-  q = record { first = suc a.resets.made; last = length a.plan.entries; streams = ready a }
+  q = next_request a
+
+  -- the first of them twice are of them
+  twice_listed : (xs : List ℕ) (s : ℕ) → Has (first_twice xs) s → Has xs s
+  twice_listed [] s h = absurd h
+  twice_listed (x ∷ xs) s h = of (has_take RESETS_AT_ONCE (x ∷ x ∷ xs) s h)
+    where
+      of : Has (x ∷ x ∷ xs) s → Has (x ∷ xs) s
+      of (inl e) = inl e
+      of (inr k) = k
+
+  -- what it names is ready
+  named_has : (b : Bool) (s : ℕ) → Has (if b then first_twice (ready a) else ready a) s → Has (ready a) s
+  named_has true s h = twice_listed (ready a) s h
+  named_has false s h = h
+
+  named_short : (b : Bool) → length (if b then first_twice (ready a) else ready a) ≤ RESETS_AT_ONCE
+  named_short true = by (ready a)
+    where
+      by : (xs : List ℕ) → length (first_twice xs) ≤ RESETS_AT_ONCE
+      by [] = omega arith
+      by (x ∷ xs) = take_short RESETS_AT_ONCE (x ∷ x ∷ xs)
+  named_short false = take_short RESETS_AT_ONCE (filter (is_ready a) (count_up 0 (min a.streams STREAM_LIMIT)))
+
+  named_some : (b : Bool) → 0 < length (ready a) → 0 < length (if b then first_twice (ready a) else ready a)
+  named_some true some = by (ready a) some
+    where
+      by : (xs : List ℕ) → 0 < length xs → 0 < length (first_twice xs)
+      by [] h = absurd (omega (arith, h))
+      by (x ∷ xs) h = by_limit RESETS_AT_ONCE (omega arith)
+        where
+          by_limit : (k : ℕ) → 0 < k → 0 < length (take k (x ∷ x ∷ xs))
+          by_limit zero none = absurd (omega (arith, none))
+          by_limit (suc k) more = omega arith
+  named_some false some = some
+
+  listed_ready : (s : ℕ) → lists (named_next a) s ≡ true → lists (ready a) s ≡ true
+  listed_ready s h = has_lists (ready a) s (named_has (was_said a a.resets.last_made (ready a)) s (lists_has (named_next a) s h))
 
   is_one : (s : ℕ) → lists (ready a) s ≡ true → is_ready a s ≡ true
   is_one s h = filter_is (is_ready a) (count_up 0 (min a.streams STREAM_LIMIT)) s (has_take RESETS_AT_ONCE (filter (is_ready a) (count_up 0 (min a.streams STREAM_LIMIT))) s (lists_has (ready a) s h))
@@ -146,13 +192,15 @@ module _ (f : Format) (n : ℕ) (a : SenderView) (u : Asked) (r : ReceiverView) 
   is_open = record {
     counted = omega arith;
     made = omega arith;
-    some = let h = rest.0 in grind (arith, nat_tests, h);
-    few = take_short RESETS_AT_ONCE (filter (is_ready a) (count_up 0 (min a.streams STREAM_LIMIT)));
-    short = λ s has. let h = counted_below 0 (min a.streams STREAM_LIMIT) s (Has-filtered (is_ready a) (count_up 0 (min a.streams STREAM_LIMIT)) s (has_take RESETS_AT_ONCE (filter (is_ready a) (count_up 0 (min a.streams STREAM_LIMIT))) s has)) in omega (arith, h);
+    some = named_some (was_said a a.resets.last_made (ready a)) (let h = rest.0 in grind (arith, nat_tests, h));
+    few = named_short (was_said a a.resets.last_made (ready a));
+    short = λ s named. let has = named_has (was_said a a.resets.last_made (ready a)) s named in let h = counted_below 0 (min a.streams STREAM_LIMIT) s (Has-filtered (is_ready a) (count_up 0 (min a.streams STREAM_LIMIT)) s (has_take RESETS_AT_ONCE (filter (is_ready a) (count_up 0 (min a.streams STREAM_LIMIT))) s has)) in omega (arith, h);
     within = omega arith;
-    shut = λ s h. shut_of (a.resets.sending s) (parts s h).0;
-    still = λ s h. record { queue = no_queued s h; closed = idle_closed f a.plan (good_here f n a u r out back d).arranged s (none_of (continued a.plan s) (tests s h).1) };
-    below = λ s h i e here on. (upto_cum s h i e here on, item_at-within a.plan.entries i e here);
+    shut = λ s named. shut_of (a.resets.sending s) (parts s (listed_ready s named)).0;
+    resets = λ s named. (parts s (listed_ready s named)).0;
+    still = λ s named. let h = listed_ready s named in
+        record { queue = no_queued s h; closed = idle_closed f a.plan (good_here f n a u r out back d).arranged s (none_of (continued a.plan s) (tests s h).1) };
+    below = λ s named i e here on. (upto_cum s (listed_ready s named) i e here on, item_at-within a.plan.entries i e here);
   }
 
   even : AreEven f a r
@@ -168,7 +216,9 @@ module _ (f : Format) (n : ℕ) (a : SenderView) (u : Asked) (r : ReceiverView) 
     next = let h = made in omega (arith, h);
     answered = λ none. absurd (cc);
     finished = λ none. absurd (cc);
+    counted = d.step.counted;
     fresh = λ x some low. d.step.finished free;
+    kept = λ x some next. let same : q ≡ x = cc in let is : FirstNumber ≡ NextNumber = ap (λ (y : Request). y.numbering) same ∙ next in absurd (cc);
     waiting = λ x some. let same : q ≡ x = cc in subst (IsOpen (asked a)) same is_open;
     bases = inl (even, λ x some le done. let h = made in let same : suc a.resets.made ≡ x.first = first_is x some in absurd (omega (arith, h, le, same)));
     old = λ l k below. let o = d.step.old l k below in record { there = o.there; closed = o.closed; upto = o.upto };
@@ -187,6 +237,9 @@ module _ (f : Format) (n : ℕ) (a : SenderView) (u : Asked) (r : ReceiverView) 
   still_shut : (t s : ℕ) → is_sending (a.resets.sending s) ≡ false → is_sending (at a.resets.sending t Resets s) ≡ false
   still_shut t s off = at_cases (λ (x : Sending). is_sending x ≡ false) a.resets.sending t Resets s (λ e. refl) (λ ne. off)
 
+  still_resetting : (t s : ℕ) → is_resetting (a.resets.sending s) ≡ true → is_resetting (at a.resets.sending t Resets s) ≡ true
+  still_resetting t s on = at_cases (λ (x : Sending). is_resetting x ≡ true) a.resets.sending t Resets s (λ e. refl) (λ ne. on)
+
   pub after_resetting : (t : ℕ) → Direction f n (resetting a t) u r out back
   after_resetting t = sender_reset f n a u r out back d (resetting a t).resets (record {
     few = d.step.few;
@@ -194,7 +247,9 @@ module _ (f : Format) (n : ℕ) (a : SenderView) (u : Asked) (r : ReceiverView) 
     next = d.step.next;
     answered = d.step.answered;
     finished = d.step.finished;
+    counted = d.step.counted;
     fresh = d.step.fresh;
+    kept = d.step.kept;
     waiting = λ q some. let o = d.step.waiting q some in record {
       counted = o.counted;
       made = o.made;
@@ -203,12 +258,13 @@ module _ (f : Format) (n : ℕ) (a : SenderView) (u : Asked) (r : ReceiverView) 
       short = o.short;
       within = o.within;
       shut = λ s h. still_shut t s (o.shut s h);
+      resets = λ s h. still_resetting t s (o.resets s h);
       still = λ s h. let k = o.still s h in record { queue = k.queue; closed = k.closed };
       below = o.below;
     };
     bases = elim d.step.bases [
       | inl both ↦ inl (both.0, both.1)
-      | inr on ↦ inr (record { request = on.request; waits = on.waits; taken = on.taken; done = on.done; streams = on.streams; reached = on.reached; bases = on.bases })
+      | inr on ↦ inr (record { request = on.request; waits = on.waits; taken = on.taken; done = on.done; streams = on.streams; reached = on.reached; bases = on.bases; noted = on.noted })
     ];
     old = d.step.old;
     answers = d.step.answers;
@@ -227,10 +283,24 @@ done_is WrongStream h = absurd (cc)
 done_is BadNumber h = absurd (cc)
 done_is InProgress h = absurd (cc)
 
+progress_is : (x : ResetResult) → is_progress_code (result_code x) ≡ true → x ≡ InProgress
+progress_is Performed h = absurd (cc)
+progress_is Denied h = absurd (cc)
+progress_is WrongStream h = absurd (cc)
+progress_is BadNumber h = absurd (cc)
+progress_is InProgress h = refl
+
+bad_number_is : (x : ResetResult) → is_number_code (result_code x) ≡ true → x ≡ BadNumber
+bad_number_is Performed h = absurd (cc)
+bad_number_is Denied h = absurd (cc)
+bad_number_is WrongStream h = absurd (cc)
+bad_number_is BadNumber h = refl
+bad_number_is InProgress h = absurd (cc)
+
 progress_not_done : (c : ℕ) → is_progress_code c ≡ true → is_done_code c ≡ true → ⊥
 progress_not_done c a b = elim (or_cases (c == 0) (c == 1) b) [
-  | inl first ↦ grind (arith, nat_tests, a, first)
-  | inr second ↦ grind (arith, nat_tests, a, second)
+  | inl first ↦ elim (or_cases (c == 4) (c == 6) a) [ inl four ↦ grind (arith, nat_tests, four, first) | inr six ↦ grind (arith, nat_tests, six, first) ]
+  | inr second ↦ elim (or_cases (c == 4) (c == 6) a) [ inl four ↦ grind (arith, nat_tests, four, second) | inr six ↦ grind (arith, nat_tests, six, second) ]
 ]
 
 module _ (f : Format) (n : ℕ) (a : SenderView) (u : Asked) (r : ReceiverView) (out back : List Dated) (d : Direction f n a u r out back) (q : Request) (waits : a.resets.pending ≡ Some q)
@@ -263,7 +333,9 @@ module _ (f : Format) (n : ℕ) (a : SenderView) (u : Asked) (r : ReceiverView) 
     next = d.step.next;
     answered = λ none. last;
     finished = λ none is. absurd (cc (done, is));
+    counted = d.step.counted;
     fresh = λ x some. absurd (cc);
+    kept = λ x some. absurd (cc);
     waiting = λ x some. absurd (cc);
     bases = elim d.step.bases [
       | inl both ↦ absurd (both.1 q waits (let m = open_there.made in omega (arith, m, last)) done)
@@ -288,7 +360,9 @@ module _ (f : Format) (n : ℕ) (a : SenderView) (u : Asked) (r : ReceiverView) 
     next = d.step.next;
     answered = λ none. last;
     finished = λ none. over;
+    counted = d.step.counted;
     fresh = λ x some. absurd (cc);
+    kept = λ x some. absurd (cc);
     waiting = λ x some. absurd (cc);
     bases = elim d.step.bases [
       | inl both ↦ inl (both.0, λ x some. absurd (cc))
@@ -301,88 +375,165 @@ module _ (f : Format) (n : ℕ) (a : SenderView) (u : Asked) (r : ReceiverView) 
       (λ base i l k h. record { based = h.based; before = λ x some. absurd (cc); within = h.within })
       (λ m h. record { number = h.number; some = h.some; made = h.made; wire = h.wire; same = λ x some. absurd (cc) })
 
-  -- it is in progress: the next number
-  more : a.resets.made ≤ (asked_again a).resets.made
-  more = go (nat_lt a.resets.made REQUEST_LIMIT)
-    where
-      go : (b : Bool) → a.resets.made ≤ (if b then suc a.resets.made else a.resets.made)
-      go true = omega arith
-      go false = omega arith
+-- The request that waits has another numbering, and this many numbers are used.
+module _ (f : Format) (n : ℕ) (a : SenderView) (u : Asked) (r : ReceiverView) (out back : List Dated) (d : Direction f n a u r out back) (q : Request) (waits : a.resets.pending ≡ Some q)
+    (was : IsKept a r) (made : ℕ) (x : Numbering) (more : a.resets.made ≤ made) (one_more : made ≤ suc a.resets.made) (few : made ≤ REQUEST_LIMIT) (keeps : x ≡ NextNumber → made ≡ a.resets.made) where
+  abbrev renamed : Request
+  renamed = record q { numbering = x }
 
-  one_more : ((asked_again a).resets.made ≤ suc a.resets.made) × ((asked_again a).resets.made ≤ REQUEST_LIMIT)
-  one_more = go (nat_lt a.resets.made REQUEST_LIMIT) refl
-    where
-      go : (b : Bool) → nat_lt a.resets.made REQUEST_LIMIT ≡ b → ((if b then suc a.resets.made else a.resets.made) ≤ suc a.resets.made) × ((if b then suc a.resets.made else a.resets.made) ≤ REQUEST_LIMIT)
-      go true on = (omega arith, grind (arith, nat_tests, on))
-      go false off = (omega arith, d.step.few)
+  is_it : (y : Request) → Some renamed ≡ Some y → renamed ≡ y
+  is_it y some = cc
 
-  pub after_again : Direction f n (asked_again a) u r out back
-  after_again = sender_reset f n a u r out back d (asked_again a).resets (record {
-    few = one_more.1;
-    taken = let h = more in let k = d.step.taken in omega (arith, h, k);
-    next = let h = one_more.0 in omega (arith, h, last);
-    answered = λ none. absurd (cc (none, waits));
-    finished = λ none. absurd (cc (none, waits));
-    fresh = d.step.fresh;
-    waiting = λ x some. let o = d.step.waiting x some in record {
-      counted = o.counted;
-      made = let h = more in let k = o.made in omega (arith, h, k);
-      some = o.some;
-      few = o.few;
-      short = o.short;
-      within = o.within;
-      shut = o.shut;
-      still = λ s h. let k = o.still s h in record { queue = k.queue; closed = k.closed };
-      below = o.below;
-    };
+  -- what is done goes on to be noted so
+  still_noted : (y : Request) → IsNotedDone a r y → IsNotedDone (numbered_so a made x q) r (record y { numbering = x })
+  still_noted y (inl done) = inl done
+  still_noted y (inr never) = absurd (elim was.1 [
+    | inl w ↦ let h = never.0 in let k = w.1 in cc (h, k)
+    | inr is ↦ let h = never.1 in cc (h, is)
+  ])
+
+  open_then : IsOpen (numbered_so a made x q) renamed
+  open_then = let o = d.step.waiting q waits in record {
+    counted = o.counted;
+    made = let k = o.made in omega (arith, k, more);
+    some = o.some;
+    few = o.few;
+    short = o.short;
+    within = o.within;
+    shut = o.shut;
+    resets = o.resets;
+    still = λ s h. let k = o.still s h in record { queue = k.queue; closed = k.closed };
+    below = o.below;
+  }
+
+  pub after_numbered : Direction f n (numbered_so a made x q) u r out back
+  after_numbered = sender_reset f n a u r out back d (numbered_so a made x q).resets (record {
+    few = few;
+    taken = let k = d.step.taken in omega (arith, more, k);
+    next = let k = was.0 in omega (arith, one_more, k);
+    answered = λ none. absurd (cc);
+    finished = λ none. absurd (cc);
+    counted = d.step.counted;
+    fresh = λ y some low. let e = ap (λ (z : Request). z.first) (is_it y some) in d.step.fresh q waits (omega (arith, low, e));
+    kept = λ y some next. (was.0 ∙ sym (keeps (ap (λ (z : Request). z.numbering) (is_it y some) ∙ next)), was.1);
+    waiting = λ y some. subst (IsOpen (numbered_so a made x q)) (is_it y some) open_then;
     bases = elim d.step.bases [
-      | inl both ↦ inl (both.0, both.1)
-      | inr on ↦ inr (record { request = on.request; waits = on.waits; taken = on.taken; done = on.done; streams = on.streams; reached = on.reached; bases = on.bases })
+      | inl both ↦ inl (both.0, λ y some le. let e = ap (λ (z : Request). z.first) (is_it y some) in both.1 q waits (omega (arith, le, e)))
+      | inr on ↦ let same : on.request ≡ q = let w = on.waits in cc (w, waits) in inr (record {
+        request = record on.request { numbering = x };
+        waits = ap (λ (z : Request). Some (record z { numbering = x })) (sym same);
+        taken = on.taken;
+        done = on.done;
+        streams = on.streams;
+        reached = on.reached;
+        bases = on.bases;
+        noted = still_noted on.request on.noted;
+      })
     ];
     old = λ l k below. let o = d.step.old l k below in record { there = o.there; closed = o.closed; upto = o.upto };
     answers = d.step.answers;
     typed = d.step.typed;
   })
-      (λ base i l k h. record { based = h.based; before = h.before; within = h.within })
-      (λ m h. record { number = h.number; some = h.some; made = let k = h.made in let j = more in omega (arith, k, j); wire = h.wire; same = h.same })
+      (λ base i l k h. record {
+        based = h.based;
+        before = λ y some listed. let e = is_it y some in subst (λ (z : Request). i ≤ z.last) e (h.before q waits (subst (λ (z : Request). lists z.streams l.stream ≡ true) (sym e) listed));
+        within = h.within;
+      })
+      (λ m h. record {
+        number = h.number;
+        some = h.some;
+        made = let k = h.made in omega (arith, k, more);
+        wire = h.wire;
+        same = λ y some le. let e = is_it y some in
+            subst (λ (z : Request). (m.last ≡ tsn a.initial z.last) × (m.streams ≡ z.streams)) e (h.same q waits (subst (λ (z : Request). z.first ≤ h.number) (sym e) le));
+      })
 
--- Whatever it says of the request that waits, which is the last one (RFC 6525, 5.2.7).
-pub after_response : (f : Format) (n : ℕ) (a : SenderView) (u : Asked) (r : ReceiverView) (out back : List Dated) (d : Direction f n a u r out back) (x : Typed) → IsAnsweredBy r.initial r x →
-    Direction f n (response_taken a (u32_at x.value) (u32_at (drop 4 x.value))) u r out back
-after_response f n a u r out back d x h = by_number (is_open_number a number) refl a.resets.pending refl
+-- Its timer retransmits it: one that was in progress takes the next number, which its peer expects.
+pub after_retried : (f : Format) (n : ℕ) (a : SenderView) (u : Asked) (r : ReceiverView) (out back : List Dated) → Direction f n a u r out back → Direction f n (retried a) u r out back
+after_retried f n a u r out back d = by a.resets.pending refl
   where
-    number : ℕ
-    number = u32_at x.value
+    next_is : (x : Numbering) → takes_next x ≡ true → x ≡ NextNumber
+    next_is FirstNumber h = absurd (cc)
+    next_is NextNumber h = refl
+    next_is LaterNumber h = absurd (cc)
 
-    code : ℕ
-    code = u32_at (drop 4 x.value)
+    by : (o : Option Request) → a.resets.pending ≡ o → Direction f n (retried_in a o) u r out back
+    by None is = d
+    by (Some q) is = go (takes_next q.numbering && nat_lt a.resets.made REQUEST_LIMIT) refl
+      where
+        go : (b : Bool) → (takes_next q.numbering && nat_lt a.resets.made REQUEST_LIMIT) ≡ b → Direction f n (if b then numbered_so a (suc a.resets.made) LaterNumber q else a) u r out back
+        go false off = d
+        go true on =
+            let parts = and_parts (takes_next q.numbering) (nat_lt a.resets.made REQUEST_LIMIT) on in
+            after_numbered f n a u r out back d q is (d.step.kept q is (next_is q.numbering parts.0)) (suc a.resets.made) LaterNumber (omega arith) (omega arith)
+                (let h = parts.1 in grind (arith, nat_tests, h)) (λ e. absurd (cc))
 
-    -- it answers the last request
-    is_last : (number == tsn a.initial a.resets.made) ≡ true → (r.resets.taken ≡ a.resets.made) × (h.number ≡ r.resets.taken)
-    is_last on =
-        let same : tsn a.initial h.number ≡ tsn a.initial a.resets.made = ap (λ (i : ℕ). tsn i h.number) (sym d.initial) ∙ sym h.wire ∙ eqb-true number (tsn a.initial a.resets.made) on in
-        let few = d.step.few in
-        let taken = d.step.taken in
-        let low = h.taken in
-        let one = one_number a.initial h.number a.resets.made (omega (arith, low, taken, few)) (omega (arith, few)) same in
-        (omega (arith, one, low, taken), omega (arith, one, low, taken))
+-- ---- a response to the request that waits, which is the last one
 
-    by_code : (q : Request) → a.resets.pending ≡ Some q → (r.resets.taken ≡ a.resets.made) × (h.number ≡ r.resets.taken) → (b p : Bool) → is_done_code code ≡ b → is_progress_code code ≡ p →
-        Direction f n (if b then reset_done a q else if p then asked_again a else reset_refused a q) u r out back
-    by_code q waits last true p done progress = after_done f n a u r out back d q waits last.0 (elim (h.code last.1) [
-      | inl on ↦ absurd (progress_not_done code on done)
-      | inr is ↦ done_is r.resets.result (subst (λ (c : ℕ). is_done_code c ≡ true) is done)
-    ])
-    by_code q waits last false true done progress = after_again f n a u r out back d q waits last.0
-    by_code q waits last false false done progress = elim (h.code last.1) [
-      | inl on ↦ absurd (cc (on, progress))
-      | inr is ↦ after_refused f n a u r out back d q waits last.0
-          (λ same. let z : is_done_code (result_code Performed) ≡ false = subst (λ (c : ℕ). is_done_code c ≡ false) (is ∙ ap result_code same) done in absurd (cc))
-          (λ same. let z : is_progress_code (result_code InProgress) ≡ false = subst (λ (c : ℕ). is_progress_code c ≡ false) (is ∙ ap result_code same) progress in absurd (cc))
-    ]
+module _ (f : Format) (n : ℕ) (a : SenderView) (u : Asked) (r : ReceiverView) (out back : List Dated) (d : Direction f n a u r out back) (x : Typed) (h : IsAnsweredBy r.initial r x) where
+  abbrev pub response_number : ℕ
+  response_number = u32_at x.value
 
-    by_number : (b : Bool) → is_open_number a number ≡ b → (o : Option Request) → a.resets.pending ≡ o → Direction f n (if b then answered_in a code o else a) u r out back
-    by_number false off o is = d
-    by_number true on None is = d
-    by_number true on (Some q) is =
-        by_code q is (is_last (and_parts (is_some a.resets.pending) (number == tsn a.initial a.resets.made) on).1) (is_done_code code) (is_progress_code code) refl refl
+  abbrev pub response_code : ℕ
+  response_code = u32_at (drop 4 x.value)
+
+  -- it answers the last request
+  is_last : (response_number == tsn a.initial a.resets.made) ≡ true → (r.resets.taken ≡ a.resets.made) × (h.number ≡ r.resets.taken)
+  is_last on =
+      let same : tsn a.initial h.number ≡ tsn a.initial a.resets.made = ap (λ (i : ℕ). tsn i h.number) (sym d.initial) ∙ sym h.wire ∙ eqb-true response_number (tsn a.initial a.resets.made) on in
+      let few = d.step.few in
+      let taken = d.step.taken in
+      let low = h.taken in
+      let one = one_number a.initial h.number a.resets.made (omega (arith, low, taken, few)) (omega (arith, few)) same in
+      (omega (arith, one, low, taken), omega (arith, one, low, taken))
+
+  open_last : is_open_number a response_number ≡ true → (r.resets.taken ≡ a.resets.made) × (h.number ≡ r.resets.taken)
+  open_last on = is_last (and_parts (is_some a.resets.pending) (response_number == tsn a.initial a.resets.made) on).1
+
+  -- it is in progress: that is noted, or known
+  pub progress_kept : is_open_number a response_number ≡ true → is_progress_code response_code ≡ true → IsKept a r
+  progress_kept on progress = let last = open_last on in (last.0, elim (h.code last.1) [
+    | inl was ↦ inl was.1
+    | inr is ↦ inr (progress_is r.resets.result (subst (λ (c : ℕ). is_progress_code c ≡ true) is progress))
+  ])
+
+  -- its number is the one that is expected
+  pub never_bad_number : (q : Request) → a.resets.pending ≡ Some q → is_open_number a response_number ≡ true → is_progress_code response_code ≡ false → is_number_code response_code ≡ true → ⊥
+  never_bad_number q waits on progress other = let last = open_last on in elim (h.code last.1) [
+    | inl was ↦ let p = was.0 in cc (p, progress)
+    | inr is ↦
+        let bad = bad_number_is r.resets.result (subst (λ (c : ℕ). is_number_code c ≡ true) is other) in
+        let none = d.step.counted bad in
+        let o = d.step.waiting q waits in
+        let some = o.counted in
+        let made = o.made in
+        let all = last.0 in
+        omega (arith, none, some, made, all)
+  ]
+
+  -- whatever it says (RFC 6525, 5.2.7)
+  pub after_response : Direction f n (response_taken a (u32_at x.value) (u32_at (drop 4 x.value))) u r out back
+  after_response = by_number (is_open_number a response_number) refl a.resets.pending refl
+    where
+      by_code : (q : Request) → a.resets.pending ≡ Some q → is_open_number a response_number ≡ true → (b p w : Bool) → is_done_code response_code ≡ b → is_progress_code response_code ≡ p →
+          (is_number_code response_code && is_later q.numbering) ≡ w →
+          Direction f n (if b then reset_done a q else if p then kept_asking a q else if w then number_back a q else reset_refused a q) u r out back
+      by_code q waits on true p w done progress other = let last = open_last on in after_done f n a u r out back d q waits last.0 (elim (h.code last.1) [
+        | inl was ↦ absurd (progress_not_done response_code was.0 done)
+        | inr is ↦ done_is r.resets.result (subst (λ (c : ℕ). is_done_code c ≡ true) is done)
+      ])
+      by_code q waits on false true w done progress other =
+          after_numbered f n a u r out back d q waits (progress_kept on progress) a.resets.made NextNumber (omega arith) (omega arith) d.step.few (λ e. refl)
+      by_code q waits on false false true done progress other =
+          absurd (never_bad_number q waits on progress (and_parts (is_number_code response_code) (is_later q.numbering) other).0)
+      by_code q waits on false false false done progress other = let last = open_last on in elim (h.code last.1) [
+        | inl was ↦ absurd (let p = was.0 in cc (p, progress))
+        | inr is ↦ after_refused f n a u r out back d q waits last.0
+            (λ same. let z : is_done_code (result_code Performed) ≡ false = subst (λ (c : ℕ). is_done_code c ≡ false) (is ∙ ap result_code same) done in absurd (cc))
+            (λ same. let z : is_progress_code (result_code InProgress) ≡ false = subst (λ (c : ℕ). is_progress_code c ≡ false) (is ∙ ap result_code same) progress in absurd (cc))
+      ]
+
+      by_number : (b : Bool) → is_open_number a response_number ≡ b → (o : Option Request) → a.resets.pending ≡ o → Direction f n (if b then answered_in a response_code o else a) u r out back
+      by_number false off o is = d
+      by_number true on None is = d
+      by_number true on (Some q) is = by_code q is on (is_done_code response_code) (is_progress_code response_code) (is_number_code response_code && is_later q.numbering) refl refl refl

@@ -17,6 +17,7 @@ use Rattle.sctp_model.specs.end.Wearing.{wearing}
 use Rattle.sctp_model.proofs.PacedEnds.{worn_cases}
 use Rattle.sctp_model.specs.end.UserCalls.{NotOpen, is_established, answer_for, send_answer, send_leaves, is_open, abandoned_at, UserTakes, ResetCall, Begun, NotAgreed, NoStream, reset_leaves, told_leaves, shut_in, shut, AbortAnswer, Aborts, NoPeer, TooLong, abort_leaves}
 use Rattle.sctp_safety.proofs.runs.Drained.{drained_abandoned, drained_worn, drained_given_up, drained_timed_out}
+use Rattle.sctp_safety.proofs.machine.Reconfigured.{retried_of}
 use Rattle.sctp_safety.proofs.runs.Homes.{home_like, IsHome, home_turned}
 use Rattle.sctp_safety.proofs.runs.Ending.{is_last, last_by_ack, AreEnding, ending_still, onward_same, onward_over, onward_open, ending_rested}
 
@@ -51,7 +52,8 @@ module _ (p : EndView) (out back : List ChunkMeaning) where
   again InitAlarm e c on = still e _ c (home_like e _ c.this.home refl refl refl refl refl) refl (λ y. y)
   again CookieAlarm e c on = still e _ c (home_like e _ c.this.home refl refl refl refl refl) refl (λ y. y)
   again DataAlarm e c on = still e _ c (home_like e _ c.this.home refl refl refl refl refl) refl (drained_timed_out e.sender)
-  again ResetAlarm e c on = still e _ c (home_like e _ c.this.home refl refl refl refl refl) refl (λ y. y)
+  again ResetAlarm e c on = still e _ c (home_like e _ c.this.home refl refl refl refl refl) refl
+      (λ y. subst (λ (v : SenderView). drained v ≡ true) (sym (retried_of e.sender).1) y)
   again ShutdownAlarm e c on = still e _ c (record {
     shutdown = λ z. let r = was_running e.moment (e.timers ShutdownAlarm).expiry on in c.this.home.shutdown_runs r.0 r.1;
     ack = c.this.home.ack;

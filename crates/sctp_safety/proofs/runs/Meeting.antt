@@ -47,7 +47,9 @@ new_step f a r sending receiving = record {
   next = omega (arith, made, taken);
   answered = λ none. taken ∙ sym made;
   finished = λ none is. not_progress is;
+  counted = λ is. taken;
   fresh = λ q some low is. not_progress is;
+  kept = λ q some. absurd (let h = pending in cc);
   waiting = λ q some. absurd (let h = pending in cc);
   bases = inl (λ l numbered. ap (λ (x : Outgoing). x.base l) sending ∙ sym (ap (λ (x : Incoming). x.base l) receiving), λ q some. absurd (let h = pending in cc));
   old = λ l n below. let h = ap (λ (x : Outgoing). x.base l) sending in absurd (omega (arith, below, h));

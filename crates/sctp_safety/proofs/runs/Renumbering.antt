@@ -11,15 +11,15 @@ use Rattle.sctp_model.specs.wire.Typed.{Typed, IsTyped}
 use Rattle.sctp_model.specs.wire.Reconfig.{RECONFIG_RESPONSE, ResetMeaning, ResetResult, Performed, Denied, WrongStream, BadNumber, InProgress, result_code, is_progress_code, response_item}
 use Rattle.sctp_model.specs.messages.Format.{Format, Lane, is_numbered}
 use Rattle.sctp_model.specs.messages.Plan.{Entry, Part, End, IsOf}
-use Rattle.sctp_model.specs.sender.Outgoing.{lists, Request}
+use Rattle.sctp_model.specs.sender.Outgoing.{lists, are_listed, Numbering, FirstNumber, NextNumber, LaterNumber, takes_next, Request}
 use Rattle.sctp_model.specs.sender.SenderView.{SenderView}
 use Rattle.sctp_model.specs.sender.Entries.{entry_lane}
 use Rattle.sctp_model.specs.sender.Resetting.{rebased}
-use Rattle.sctp_model.specs.receiver.Incoming.{Incoming}
+use Rattle.sctp_model.specs.receiver.Incoming.{Incoming, Waited}
 use Rattle.sctp_model.specs.receiver.ReceiverView.{ReceiverView, IsCumulative}
 use Rattle.sctp_model.specs.receiver.Reading.{is_behind}
 use Rattle.sctp_model.specs.receiver.Rows.{first_of}
-use Rattle.sctp_model.specs.receiver.ResetTaken.{count_on, names, reset_answer, is_next, is_again, is_in_progress, is_in_turn, answer_in_turn, with_answer, renumbered, renumbered_by, reset_taken, with_answers, told_of}
+use Rattle.sctp_model.specs.receiver.ResetTaken.{count_on, names, reset_answer, is_next, is_again, is_in_progress, is_in_turn, answer_in_turn, with_answer, renumbered, renumbered_by, reset_taken, with_answers, told_of, names_anew, waited_on, was_performed, is_done, is_done_again}
 use Rattle.sctp_model.specs.world.Calls.{Asked}
 use Rattle.sctp_model.proofs.receiver.RowLemmas.{row_fails}
 use Rattle.sctp_safety.specs.Way.{Way, Note_duplicates, with_receiver}
@@ -32,7 +32,7 @@ use Rattle.sctp_safety.proofs.receiving.ReadBounds.{cum_within}
 use Rattle.sctp_safety.proofs.receiving.CountReads.{all_counted}
 use Rattle.sctp_safety.proofs.runs.Dates.{Dated}
 use Rattle.sctp_safety.proofs.runs.Direction.{way_of, Readably, Answeredly, Direction, counted_in, more_same, said_later, said_back_later}
-use Rattle.sctp_safety.proofs.runs.ResetFacts.{IsAskedBy, IsAnsweredBy, AreAnswers, IsOpen, AreEven, IsAhead, AreInStep, one_number, behind_is, u32_back, behind_u32}
+use Rattle.sctp_safety.proofs.runs.ResetFacts.{IsAskedBy, IsAnsweredBy, AreAnswers, IsOpen, AreEven, IsAhead, AreInStep, IsKept, one_number, behind_is, u32_back, behind_u32, WasWaiting, IsNotedDone, IsNoted, noted_received, noted_done}
 
 -- ---- a receiver that knows something else of resets
 
@@ -86,6 +86,10 @@ never false false y e no_stream no_progress no_done = no_done e
 -- a number that is the next one, or the last one again
 of_number : (x y : ℕ) → (x == y) ≡ true → x ≡ y
 of_number x y h = eqb-true x y h
+
+-- nothing is noted
+abbrev no_waited : Option Waited
+no_waited = None
 
 module _ (f : Format) (n : ℕ) (a : SenderView) (u : Asked) (r : ReceiverView) (out back : List Dated) (d : Direction f n a u r out back) (c : ℕ) (cumulative : IsCumulative r c)
     (m : ResetMeaning) (ask : IsAskedBy a.initial a m) where
@@ -203,9 +207,89 @@ module _ (f : Format) (n : ℕ) (a : SenderView) (u : Asked) (r : ReceiverView) 
         go true e = omega (arith, e)
         go false e = omega (arith, e)
 
+    -- ---- what is done is reported once
+
+    same_list : (xs : List ℕ) → are_listed xs xs ≡ true
+    same_list [] = refl
+    same_list (x ∷ xs) =
+        let number : (x == x) ≡ true = grind (arith, nat_tests) in
+        let others = same_list xs in
+        rw (number, others) refl
+
+    -- what is noted of it
+    abbrev as_said : Bool → Waited
+    as_said b = record { last = m.last; streams = m.streams; done = b }
+
+    says : as_said true ≡ noted_done r.initial q
+    says =
+        ap (λ (i : ℕ). record (as_said true) { last = i }) (asked.0 ∙ ap (λ (i : ℕ). tsn i q.last) (sym d.initial))
+        ∙ ap (λ (xs : List ℕ). record (noted_done r.initial q) { streams = xs }) asked.1
+
+    its : (x : Request) → a.resets.pending ≡ Some x → x ≡ q
+    its x w = let v = t.waits in cc (w, v)
+
+    matches : is_done_again (Some (as_said true)) m ≡ true
+    matches =
+        let number : (m.last == m.last) ≡ true = grind (arith, nat_tests) in
+        let others = same_list m.streams in
+        rw (number, others) refl
+
+    -- The request that waits was done: so it was performed before, and nothing more is to be reported of it.
+    pub once : (x : Request) → a.resets.pending ≡ Some x → IsNotedDone a r x → was_performed r m ≡ true
+    once x w noted = elim noted [
+      | inl done ↦
+          ap (λ (o : Option Waited). is_done_again o m) (done ∙ ap (λ (y : Request). Some (noted_done r.initial y)) (its x w) ∙ sym (ap (λ (v : Waited). Some v) says)) ∙ matches
+      | inr never ↦ absurd (elim (or_cases (is_next r m.number) (is_again r m.number && is_in_progress r.resets.result) on) [
+        | inl next ↦ let h = next_is next in let l = ask.made in let e = never.2 in omega (arith, h, l, e)
+        | inr again ↦
+            let h = (and_parts (is_again r m.number) (is_in_progress r.resets.result) again).1 in
+            let z : is_in_progress Performed ≡ true = subst (λ (y : ResetResult). is_in_progress y ≡ true) never.1 h in
+            cc
+      ])
+    ]
+
+    -- it is noted so if it is in progress again,
+    noted_again : (x : Request) → a.resets.pending ≡ Some x → IsNotedDone a r x → (y : ResetResult) → y ≡ InProgress → (xs : List Typed) → IsNotedDone a (with_answers (with_answer r m y) xs) x
+    noted_again x w noted y is xs = inl (
+      ap (waited_on r m) is ∙ ap (λ (b : Bool). Some (as_said b)) (once x w noted) ∙ ap (λ (v : Waited). Some v) says ∙ ap (λ (z : Request). Some (noted_done r.initial z)) (sym (its x w))
+    )
+
+    -- the next number is not of one that keeps its number
+    not_kept : is_next r m.number ≡ true → takes_next q.numbering ≡ false
+    not_kept next = by q.numbering refl
+      where
+        by : (x : Numbering) → q.numbering ≡ x → takes_next x ≡ false
+        by FirstNumber is = refl
+        by LaterNumber is = refl
+        by NextNumber is = let k = (d.step.kept q t.waits is).0 in let h = next_is next in let l = ask.made in absurd (omega (arith, k, h, l))
+
+    -- and where it is performed
+    noted_now : (xs : List Typed) → IsNotedDone a (with_answers (with_answer (renumbered r (names r m.streams) (names_anew r m)) m Performed) xs) q
+    noted_now xs = go (is_next r m.number) refl
+      where
+        go : (b : Bool) → is_next r m.number ≡ b → IsNotedDone a (with_answers (with_answer (renumbered r (names r m.streams) (names_anew r m)) m Performed) xs) q
+        go true next = inr (
+          ap (λ (c : Bool). if c then no_waited else Some (as_said true)) next,
+          refl,
+          (let e : (if is_next r m.number then suc r.resets.taken else r.resets.taken) ≡ suc r.resets.taken = ap (λ (c : Bool). if c then suc r.resets.taken else r.resets.taken) next in
+          let h = next_is next in let l = ask.made in let k = d.step.next in omega (arith, e, h, l, k)),
+          not_kept next,
+        )
+        go false again = inl (ap (λ (c : Bool). if c then no_waited else Some (as_said true)) again ∙ ap (λ (w : Waited). Some w) says)
+
+    -- the last one again is noted
+    was_waiting : (x : ResetResult) (s : Incoming) → is_next r m.number ≡ false → s.waited ≡ waited_on r m x → WasWaiting (record r { resets = s })
+    was_waiting x s off waited = by_waited (is_in_progress x) (is_next r m.number) off waited
+      where
+        by_waited : (b c : Bool) → c ≡ false → s.waited ≡ (if b then Some (as_said (was_performed r m)) else if c then no_waited else Some (as_said (is_done x))) → WasWaiting (record r { resets = s })
+        by_waited true c e is = (as_said (was_performed r m), is)
+        by_waited false false e is = (as_said (is_done x), is)
+        by_waited false true e is = absurd (cc)
+
     -- what was answered before stays, as the last of it was in progress
-    answered_before : (x : ResetResult) (s : Incoming) → s.taken ≡ (if is_next r m.number then suc r.resets.taken else r.resets.taken) → s.result ≡ x → Answeredly r.initial r (record r { resets = s })
-    answered_before x s taken result y h = go (is_next r m.number) refl
+    answered_before : (x : ResetResult) (s : Incoming) → s.taken ≡ (if is_next r m.number then suc r.resets.taken else r.resets.taken) → s.result ≡ x → s.waited ≡ waited_on r m x →
+        Answeredly r.initial r (record r { resets = s })
+    answered_before x s taken result waited y h = go (is_next r m.number) refl
       where
         go : (b : Bool) → is_next r m.number ≡ b → IsAnsweredBy r.initial (record r { resets = s }) y
         go true next = record {
@@ -219,9 +303,9 @@ module _ (f : Format) (n : ℕ) (a : SenderView) (u : Asked) (r : ReceiverView) 
           taken = let k = h.taken in let e : s.taken ≡ r.resets.taken = by_off in omega (arith, k, e);
           wire = h.wire;
           code = λ same. inl (elim (h.code (same ∙ by_off)) [
-            | inl progress ↦ progress
+            | inl on ↦ on.0
             | inr is ↦ subst (λ (k : ℕ). is_progress_code k ≡ true) (sym (is ∙ ap result_code was_progress)) refl
-          ]);
+          ], was_waiting x s off waited);
         }
           where
             by_off : s.taken ≡ r.resets.taken
@@ -283,7 +367,7 @@ module _ (f : Format) (n : ℕ) (a : SenderView) (u : Asked) (r : ReceiverView) 
       counted l listed numbered = all_counted here good d.idle l.stream (open_there.still l.stream listed).closed
           (λ i e k o at own on. all_reached i (item_at-above a.plan.entries i e at) (open_there.below l.stream listed i e at (lane_of_entry k o e own ∙ on)).1) l.kind numbered
 
-      new_base : (l : Lane) → is_numbered f l.kind ≡ true → (renumbered r (names r m.streams)).resets.base l ≡ rebased a q l
+      new_base : (l : Lane) → is_numbered f l.kind ≡ true → (renumbered r (names r m.streams) (names_anew r m)).resets.base l ≡ rebased a q l
       new_base l numbered = ap (λ (b : Bool). if b then count_on r l.stream l.kind else r.resets.base l) (named l.stream) ∙ by (lists q.streams l.stream) refl
         where
           by : (b : Bool) → lists q.streams l.stream ≡ b → (if b then count_on r l.stream l.kind else r.resets.base l) ≡ (if b then length (a.plan.messages l) else a.resets.base l)
@@ -291,7 +375,7 @@ module _ (f : Format) (n : ℕ) (a : SenderView) (u : Asked) (r : ReceiverView) 
           by false off = sym (unlisted_same l numbered off)
 
       -- a chunk of a renumbered lane lies before the request
-      read_anew : (x : Incoming) → ((l : Lane) → x.base l ≡ (renumbered r (names r m.streams)).resets.base l) → Readably f a a r (record r { resets = x })
+      read_anew : (x : Incoming) → ((l : Lane) → x.base l ≡ (renumbered r (names r m.streams) (names_anew r m)).resets.base l) → Readably f a a r (record r { resets = x })
       read_anew x bases base i l k h = record {
         based = record { low = h.based.low; same = λ numbered. by (lists q.streams l.stream) refl numbered };
         before = h.before;
@@ -339,7 +423,7 @@ module _ (f : Format) (n : ℕ) (a : SenderView) (u : Asked) (r : ReceiverView) 
   after_request xs more is = go (is_in_turn r m.number) refl (reset_answer r c m) refl
     where
       view : (b : Bool) (x : ResetResult) → ReceiverView
-      view b x = with_answers (if b then with_answer (renumbered_by r (names r m.streams) x) m.number x else r) xs
+      view b x = with_answers (if b then with_answer (renumbered_by r (names r m.streams) (names_anew r m) x) m x else r) xs
 
       go : (b : Bool) → is_in_turn r m.number ≡ b → (x : ResetResult) → reset_answer r c m ≡ x → Direction f n a u (view b x) out back
       go false off x answers = out_of_turn
@@ -351,11 +435,13 @@ module _ (f : Format) (n : ℕ) (a : SenderView) (u : Asked) (r : ReceiverView) 
             next = d.step.next;
             answered = d.step.answered;
             finished = d.step.finished;
+            counted = d.step.counted;
             fresh = d.step.fresh;
+            kept = d.step.kept;
             waiting = d.step.waiting;
             bases = elim d.step.bases [
               | inl both ↦ inl (both.0, both.1)
-              | inr k ↦ inr (record { request = k.request; waits = k.waits; taken = k.taken; done = k.done; streams = k.streams; reached = k.reached; bases = k.bases })
+              | inr k ↦ inr (record { request = k.request; waits = k.waits; taken = k.taken; done = k.done; streams = k.streams; reached = k.reached; bases = k.bases; noted = k.noted })
             ];
             old = d.step.old;
             answers = answers_of (with_answers r xs).resets z more same_answers is one;
@@ -394,26 +480,44 @@ module _ (f : Format) (n : ℕ) (a : SenderView) (u : Asked) (r : ReceiverView) 
             code = λ last. inr (item_code m.number answer ∙ ap result_code (given ∙ sym result));
           }
 
+          -- no request is answered so in its turn
+          never_bad : (y : ResetResult) → reset_answer r c m ≡ y → y ≡ BadNumber → ⊥
+          never_bad y e bad = never (list_any (nat_le r.streams) m.streams) (not (is_behind r c m.last)) BadNumber (e ∙ bad) (λ k. cc) (λ k. cc) (λ k. cc)
+
+          -- one that keeps its number is the last one again
+          kept_on : (s : Incoming) → s.taken ≡ (if is_next r m.number then suc r.resets.taken else r.resets.taken) → s.waited ≡ waited_on r m (reset_answer r c m) → (x : Request) →
+              a.resets.pending ≡ Some x → x.numbering ≡ NextNumber → IsKept a (record r { resets = s })
+          kept_on s taken waited x some later = by_next (is_next r m.number) refl
+            where
+              k : IsKept a r
+              k = d.step.kept x some later
+
+              by_next : (b : Bool) → is_next r m.number ≡ b → IsKept a (record r { resets = s })
+              by_next true next = let h = next_is next in let l = ask.made in let e = k.0 in absurd (omega (arith, h, l, e))
+              by_next false off = (taken ∙ (rw off refl) ∙ k.0, inl (was_waiting on (reset_answer r c m) s off waited))
+
           -- in its turn, and done or not
-          in_turn : (s : Incoming) → s.taken ≡ (if is_next r m.number then suc r.resets.taken else r.resets.taken) → s.result ≡ reset_answer r c m → s.answers ≡ xs →
+          in_turn : (s : Incoming) → s.taken ≡ (if is_next r m.number then suc r.resets.taken else r.resets.taken) → s.result ≡ reset_answer r c m → s.waited ≡ waited_on r m (reset_answer r c m) → s.answers ≡ xs →
               (AreEven f a (record r { resets = s }) × (s.result ≡ Performed → ⊥)) ⊎ IsAhead f a (record r { resets = s }) → Readably f a a r (record r { resets = s }) → Direction f n a u (record r { resets = s }) out back
-          in_turn s taken result same bases reads = receiver_reset f n a u r out back d s (record {
+          in_turn s taken result waited same bases reads = receiver_reset f n a u r out back d s (record {
             few = d.step.few;
             taken = let h = now_taken on in let k = ask.made in omega (arith, h, taken, k);
             next = let h = now_taken on in let k = no_fewer on in let l = d.step.next in omega (arith, h, taken, k, l);
             answered = λ none. absurd (let h = (turn on).waits in cc);
             finished = λ none. absurd (let h = (turn on).waits in cc);
             fresh = λ x some low. let h = now_taken on in let w = (turn on).waits in let same : x ≡ q on = cc (some, w) in let k : x.first ≤ ask.number = subst (λ (y : Request). y.first ≤ ask.number) (sym same) (turn on).first in absurd (omega (arith, h, taken, low, k));
+            counted = λ bad. absurd (never_bad (reset_answer r c m) refl (sym result ∙ bad));
+            kept = λ x some later. kept_on s taken waited x some later;
             waiting = d.step.waiting;
             bases = elim bases [ inl both ↦ inl (both.0, λ k some last done. both.1 done) | inr k ↦ inr k ];
             old = d.step.old;
-            answers = answers_of s z more (answered_before on (reset_answer r c m) s taken result) (same ∙ is) (one_in s taken result);
+            answers = answers_of s z more (answered_before on (reset_answer r c m) s taken result waited) (same ∙ is) (one_in s taken result);
             typed = typed_of z more s.answers (same ∙ is) (item_typed m.number answer, refl);
-          }) reads (answered_before on (reset_answer r c m) s taken result)
+          }) reads (answered_before on (reset_answer r c m) s taken result waited)
 
           -- one that isn't done leaves the numbers; what is done stays so
-          undone : (y : ResetResult) → reset_answer r c m ≡ y → (y ≡ Performed → ⊥) → (IsAhead f a r → y ≡ InProgress) → Direction f n a u (with_answers (with_answer r m.number y) xs) out back
-          undone y is_y other ahead = in_turn (with_answers (with_answer r m.number y) xs).resets refl (sym is_y) refl
+          undone : (y : ResetResult) → reset_answer r c m ≡ y → (y ≡ Performed → ⊥) → (IsAhead f a r → y ≡ InProgress) → Direction f n a u (with_answers (with_answer r m y) xs) out back
+          undone y is_y other ahead = in_turn (with_answers (with_answer r m y) xs).resets refl (sym is_y) (ap (waited_on r m) (sym is_y)) refl
               (elim d.step.bases [
                 | inl both ↦ inl ((λ l numbered. both.0 l numbered), other)
                 | inr k ↦ inr (record {
@@ -424,6 +528,7 @@ module _ (f : Format) (n : ℕ) (a : SenderView) (u : Asked) (r : ReceiverView) 
                   streams = k.streams;
                   reached = k.reached;
                   bases = k.bases;
+                  noted = noted_again on k.request k.waits k.noted y (ahead k) xs;
                 })
               ])
               (λ base i l k h. record { based = record { low = h.based.low; same = h.based.same }; before = h.before; within = h.within })
@@ -444,7 +549,7 @@ module _ (f : Format) (n : ℕ) (a : SenderView) (u : Asked) (r : ReceiverView) 
           by WrongStream e = undone WrongStream e (λ k. cc) (λ k. absurd (never_wrong e k))
           by BadNumber e = absurd (never (list_any (nat_le r.streams) m.streams) (not (is_behind r c m.last)) BadNumber e (λ k. cc) (λ k. cc) (λ k. cc))
           by InProgress e = undone InProgress e (λ k. cc) (λ k. refl)
-          by Performed e = in_turn (view true Performed).resets refl (sym e) refl
+          by Performed e = in_turn (view true Performed).resets refl (sym e) (ap (waited_on r m) (sym e)) refl
               (inr (record {
                 request = q on;
                 waits = (turn on).waits;
@@ -453,8 +558,73 @@ module _ (f : Format) (n : ℕ) (a : SenderView) (u : Asked) (r : ReceiverView) 
                 streams = streams_there on e;
                 reached = all_reached on e;
                 bases = new_base on e;
+                noted = noted_now on xs;
               }))
               (read_anew on e (view true Performed).resets (λ l. refl))
+
+  -- ---- what is noted of it
+
+  -- A request in its turn that is performed for streams anew wasn't noted before,
+  pub not_noted : is_in_turn r m.number ≡ true → (s : ℕ) → names_anew r m s ≡ true → IsNoted a r s → ⊥
+  not_noted on s anew k =
+      let new = (and_parts (names r m.streams s) (not (was_performed r m)) anew).1 in
+      let z : false ≡ true = subst (λ (b : Bool). not b ≡ true) (once on k.request k.waits k.done) new in
+      cc
+
+  abbrev performed_view : List Typed → ReceiverView
+  performed_view xs = with_answers (with_answer (renumbered r (names r m.streams) (names_anew r m)) m Performed) xs
+
+  -- and is then.
+  pub noted_performed : (on : is_in_turn r m.number ≡ true) → reset_answer r c m ≡ Performed → (xs : List Typed) (s : ℕ) → lists (turn on).request.streams s ≡ true →
+      IsNoted a (with_answers (reset_taken r c m) xs) s
+  noted_performed on done xs s listed = subst (λ (x : ReceiverView). IsNoted a x s) (sym is) (record {
+    request = (turn on).request;
+    waits = (turn on).waits;
+    named = listed;
+    there = streams_there on done;
+    done = noted_now on xs;
+  })
+    where
+      is : with_answers (reset_taken r c m) xs ≡ performed_view xs
+      is =
+          let e : reset_taken r c m ≡ with_answer (renumbered r (names r m.streams) (names_anew r m)) m Performed = rw (on, done) refl in
+          ap (λ (v : ReceiverView). with_answers v xs) e
+
+  -- What is noted stays so, whatever is answered.
+  pub stays_noted : (xs : List Typed) (s : ℕ) → IsNoted a r s → IsNoted a (with_answers (reset_taken r c m) xs) s
+  stays_noted xs s k = go (is_in_turn r m.number) refl (reset_answer r c m) refl
+    where
+      view : (b : Bool) (x : ResetResult) → ReceiverView
+      view b x = with_answers (if b then with_answer (renumbered_by r (names r m.streams) (names_anew r m) x) m x else r) xs
+
+      noted : (on : is_in_turn r m.number ≡ true) (t : ReceiverView) → t.streams ≡ r.streams → IsNotedDone a t k.request → IsNoted a t s
+      noted on t streams done = record {
+        request = k.request;
+        waits = k.waits;
+        named = k.named;
+        there = ap (λ (n : ℕ). list_any (nat_le n) k.request.streams) streams ∙ k.there;
+        done = done;
+      }
+
+      -- its streams exist
+      never_wrong : (on : is_in_turn r m.number ≡ true) → reset_answer r c m ≡ WrongStream → ⊥
+      never_wrong on e =
+          let none : list_any (nat_le r.streams) m.streams ≡ false =
+              ap (list_any (nat_le r.streams)) ((asked on).1 ∙ ap (λ (y : Request). y.streams) (sym (its on k.request k.waits))) ∙ k.there in
+          by_behind (is_behind r c m.last) refl none
+        where
+          by_behind : (b : Bool) → is_behind r c m.last ≡ b → list_any (nat_le r.streams) m.streams ≡ false → ⊥
+          by_behind true behind none = let h : Performed ≡ WrongStream = sym (rw (none, behind) refl) ∙ e in absurd (cc)
+          by_behind false behind none = let h : InProgress ≡ WrongStream = sym (rw (none, behind) refl) ∙ e in absurd (cc)
+
+      go : (b : Bool) → is_in_turn r m.number ≡ b → (x : ResetResult) → reset_answer r c m ≡ x → IsNoted a (view b x) s
+      go false off x e = noted_received a r (with_answers r xs) s refl refl refl refl refl k
+      go true on Performed e = noted on (view true Performed) refl
+          (subst (IsNotedDone a (view true Performed)) (sym (its on k.request k.waits)) (noted_now on xs))
+      go true on InProgress e = noted on (view true InProgress) refl (noted_again on k.request k.waits k.done InProgress refl xs)
+      go true on WrongStream e = absurd (never_wrong on e)
+      go true on Denied e = absurd (never (list_any (nat_le r.streams) m.streams) (not (is_behind r c m.last)) Denied e (λ z. cc) (λ z. cc) (λ z. cc))
+      go true on BadNumber e = absurd (never (list_any (nat_le r.streams) m.streams) (not (is_behind r c m.last)) BadNumber e (λ z. cc) (λ z. cc) (λ z. cc))
 
 -- ---- the user is notified
 
@@ -465,11 +635,13 @@ after_told f n a u r out back d s = receiver_reset f n a u r out back d (told_of
   next = d.step.next;
   answered = d.step.answered;
   finished = d.step.finished;
+  counted = d.step.counted;
   fresh = d.step.fresh;
+  kept = d.step.kept;
   waiting = d.step.waiting;
   bases = elim d.step.bases [
     | inl both ↦ inl (both.0, both.1)
-    | inr x ↦ inr (record { request = x.request; waits = x.waits; taken = x.taken; done = x.done; streams = x.streams; reached = x.reached; bases = x.bases })
+    | inr x ↦ inr (record { request = x.request; waits = x.waits; taken = x.taken; done = x.done; streams = x.streams; reached = x.reached; bases = x.bases; noted = x.noted })
   ];
   old = d.step.old;
   answers = λ x has kind. let h = d.step.answers x has kind in record { number = h.number; taken = h.taken; wire = h.wire; code = h.code };

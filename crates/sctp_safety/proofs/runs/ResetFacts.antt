@@ -9,14 +9,14 @@ use Rattle.sctp_model.specs.numbers.Lists.{Has, joined}
 use Rattle.sctp_model.specs.numbers.Numbers.{u16_bytes, u32_bytes, u32_at}
 use Rattle.sctp_model.specs.numbers.Serial.{tsn, ahead}
 use Rattle.sctp_model.specs.wire.Typed.{Typed, IsTyped}
-use Rattle.sctp_model.specs.wire.Reconfig.{OUTGOING_RESET, RECONFIG_RESPONSE, ResetMeaning, u16s_in, reset_item, reset_read, is_parameter, is_other_request, Performed, InProgress, result_code, is_progress_code}
+use Rattle.sctp_model.specs.wire.Reconfig.{OUTGOING_RESET, RECONFIG_RESPONSE, ResetMeaning, u16s_in, reset_item, reset_read, is_parameter, is_other_request, Performed, BadNumber, InProgress, result_code, is_progress_code}
 use Rattle.sctp_model.specs.messages.Format.{Format, Lane, is_numbered}
 use Rattle.sctp_model.specs.messages.Plan.{Entry, entry_at}
-use Rattle.sctp_model.specs.sender.Outgoing.{is_sending, lists, Request, Outgoing}
+use Rattle.sctp_model.specs.sender.Outgoing.{is_sending, is_resetting, lists, NextNumber, takes_next, Request, Outgoing}
 use Rattle.sctp_model.specs.sender.SenderView.{SenderView}
 use Rattle.sctp_model.specs.sender.Entries.{entry_lane}
 use Rattle.sctp_model.specs.sender.Resetting.{rebased}
-use Rattle.sctp_model.specs.receiver.Incoming.{Incoming}
+use Rattle.sctp_model.specs.receiver.Incoming.{Incoming, Waited}
 use Rattle.sctp_model.specs.receiver.ReceiverView.{ReceiverView, Reaches}
 use Rattle.sctp_model.specs.receiver.Reading.{is_behind}
 use Rattle.sctp_safety.specs.ReceiverLaws.{AreReached, IsBased}
@@ -39,12 +39,16 @@ pub record IsAskedBy (i : ℕ) (a : SenderView) (m : ResetMeaning) : Type 0 wher
   pub wire : m.number ≡ tsn i number
   pub same : (q : Request) → a.resets.pending ≡ Some q → q.first ≤ number → (m.last ≡ tsn i q.last) × (m.streams ≡ q.streams)
 
--- an answer of the receiver's end: what is answered to the last request stays so, unless it was in progress
+-- the last request was in progress
+abbrev pub WasWaiting : ReceiverView → Type 0
+WasWaiting r = (w : Waited) × (r.resets.waited ≡ Some w)
+
+-- an answer of the receiver's end: what is answered to the last request stays so, unless it was in progress, which is noted
 pub record IsAnsweredBy (i : ℕ) (r : ReceiverView) (x : Typed) : Type 0 where
   pub number : ℕ
   pub taken : number ≤ r.resets.taken
   pub wire : u32_at x.value ≡ tsn i number
-  pub code : number ≡ r.resets.taken → (is_progress_code (u32_at (drop 4 x.value)) ≡ true) ⊎ (u32_at (drop 4 x.value) ≡ result_code r.resets.result)
+  pub code : number ≡ r.resets.taken → ((is_progress_code (u32_at (drop 4 x.value)) ≡ true) × WasWaiting r) ⊎ (u32_at (drop 4 x.value) ≡ result_code r.resets.result)
 
 -- parameters of a RE-CONFIG of the sender's end
 abbrev pub AreAsked : ℕ → SenderView → List Typed → Type 0
@@ -65,12 +69,58 @@ pub record IsOpen (a : SenderView) (q : Request) : Type 0 where
   pub short : (s : ℕ) → Has q.streams s → s < 2 ^ 16
   pub within : q.last ≤ length a.plan.entries
   pub shut : (s : ℕ) → lists q.streams s ≡ true → is_sending (a.resets.sending s) ≡ false
+  pub resets : (s : ℕ) → lists q.streams s ≡ true → is_resetting (a.resets.sending s) ≡ true
   pub still : (s : ℕ) → lists q.streams s ≡ true → IsStill a s
   pub below : (s : ℕ) → lists q.streams s ≡ true → (i : ℕ) (e : Entry) → entry_at a.plan i ≡ Some e → (entry_lane e).stream ≡ s → (i ≤ a.cum) × (i ≤ q.last)
 
 -- both count from the same numbers
 abbrev pub AreEven : Format → SenderView → ReceiverView → Type 0
 AreEven f a r = (l : Lane) → is_numbered f l.kind ≡ true → a.resets.base l ≡ r.resets.base l
+
+-- what is noted of this request, once it was performed
+abbrev pub noted_done : (initial : ℕ) → Request → Waited
+noted_done i q = record { last = tsn i q.last; streams = q.streams; done = true }
+
+-- It is noted that the request that waits was performed, after it had been in progress; or it was never in progress, and isn't retried with another number.
+abbrev pub IsNotedDone : SenderView → ReceiverView → Request → Type 0
+IsNotedDone a r q =
+    (r.resets.waited ≡ Some (noted_done r.initial q)) ⊎
+    ((r.resets.waited ≡ None) × (r.resets.result ≡ Performed) × (r.resets.taken ≡ a.resets.made) × (takes_next q.numbering ≡ false))
+
+-- The request that waits names this stream, was performed, and is noted so: it is reported no more.
+pub record IsNoted (a : SenderView) (r : ReceiverView) (s : ℕ) : Type 0 where
+  pub request : Request
+  pub waits : a.resets.pending ≡ Some request
+  pub named : lists request.streams s ≡ true
+  pub there : list_any (nat_le r.streams) request.streams ≡ false
+  pub done : IsNotedDone a r request
+
+-- by another receiver that has noted the same
+pub noted_received : (a : SenderView) (r t : ReceiverView) (s : ℕ) → t.initial ≡ r.initial → t.streams ≡ r.streams → t.resets.waited ≡ r.resets.waited → t.resets.result ≡ r.resets.result →
+    t.resets.taken ≡ r.resets.taken → IsNoted a r s → IsNoted a t s
+noted_received a r t s initial streams waited result taken k = record {
+  request = k.request;
+  waits = k.waits;
+  named = k.named;
+  there = ap (λ (n : ℕ). list_any (nat_le n) k.request.streams) streams ∙ k.there;
+  done = elim k.done [
+    | inl done ↦ inl (waited ∙ done ∙ ap (λ (i : ℕ). Some (noted_done i k.request)) (sym initial))
+    | inr never ↦ inr (waited ∙ never.0, result ∙ never.1, taken ∙ never.2, never.3)
+  ];
+}
+
+-- and by another sender with the same request
+pub noted_sent : (a b : SenderView) (r : ReceiverView) (s : ℕ) → b.resets.pending ≡ a.resets.pending → b.resets.made ≡ a.resets.made → IsNoted a r s → IsNoted b r s
+noted_sent a b r s pending made k = record {
+  request = k.request;
+  waits = pending ∙ k.waits;
+  named = k.named;
+  there = k.there;
+  done = elim k.done [
+    | inl done ↦ inl done
+    | inr never ↦ inr (never.0, never.1, never.2 ∙ sym made, never.3)
+  ];
+}
 
 -- the receiver has done what waits, and the sender doesn't know
 pub record IsAhead (f : Format) (a : SenderView) (r : ReceiverView) : Type 0 where
@@ -81,18 +131,25 @@ pub record IsAhead (f : Format) (a : SenderView) (r : ReceiverView) : Type 0 whe
   pub streams : list_any (nat_le r.streams) request.streams ≡ false
   pub reached : AreReached r request.last
   pub bases : (l : Lane) → is_numbered f l.kind ≡ true → r.resets.base l ≡ rebased a request l
+  pub noted : IsNotedDone a r request
 
 -- it hasn't done it
 abbrev pub IsUndone : SenderView → ReceiverView → Type 0
 IsUndone a r = (q : Request) → a.resets.pending ≡ Some q → q.first ≤ r.resets.taken → r.resets.result ≡ Performed → ⊥
 
+-- The receiver has taken the last number of the sender, and it was in progress.
+abbrev pub IsKept : SenderView → ReceiverView → Type 0
+IsKept a r = (r.resets.taken ≡ a.resets.made) × (WasWaiting r ⊎ (r.resets.result ≡ InProgress))
+
 pub record AreInStep (f : Format) (a : SenderView) (r : ReceiverView) : Type 0 where
   pub few : a.resets.made ≤ REQUEST_LIMIT
+  pub counted : r.resets.result ≡ BadNumber → r.resets.taken ≡ 0
   pub taken : r.resets.taken ≤ a.resets.made
   pub next : a.resets.made ≤ suc r.resets.taken
   pub answered : a.resets.pending ≡ None → r.resets.taken ≡ a.resets.made
   pub finished : a.resets.pending ≡ None → r.resets.result ≡ InProgress → ⊥
   pub fresh : (q : Request) → a.resets.pending ≡ Some q → r.resets.taken < q.first → r.resets.result ≡ InProgress → ⊥
+  pub kept : (q : Request) → a.resets.pending ≡ Some q → q.numbering ≡ NextNumber → IsKept a r
   pub waiting : (q : Request) → a.resets.pending ≡ Some q → IsOpen a q
   pub bases : (AreEven f a r × IsUndone a r) ⊎ IsAhead f a r
   pub old : (l : Lane) (n : ℕ) → n < a.resets.base l → IsOld a.plan a.cum l n
@@ -178,7 +235,7 @@ answered_later i r t x same h = record {
   taken = let k = h.taken in let e = ap (λ (y : Incoming). y.taken) same in omega (arith, k, e);
   wire = h.wire;
   code = λ last. elim (h.code (last ∙ ap (λ (y : Incoming). y.taken) same)) [
-    | inl progress ↦ inl progress
+    | inl on ↦ inl (on.0, (on.1.0, ap (λ (y : Incoming). y.waited) same ∙ on.1.1))
     | inr is ↦ inr (is ∙ ap (λ (y : Incoming). result_code y.result) (sym same))
   ];
 }
@@ -201,7 +258,9 @@ step_sent f a b r same streams cum longer stills olds h = record {
   next = let k = h.next in omega (arith, k, made);
   answered = λ none. h.answered (waits None none) ∙ sym made;
   finished = λ none. h.finished (waits None none);
+  counted = h.counted;
   fresh = λ q some. h.fresh q (waits (Some q) some);
+  kept = λ q some next. let k = h.kept q (waits (Some q) some) next in (k.0 ∙ sym made, k.1);
   waiting = λ q some. waiting q (waits (Some q) some);
   bases = elim h.bases [
     | inl even ↦ inl (λ l numbered. ap (λ (x : Outgoing). x.base l) same ∙ even.0 l numbered, λ q some. even.1 q (waits (Some q) some))
@@ -213,6 +272,10 @@ step_sent f a b r same streams cum longer stills olds h = record {
       streams = on.streams;
       reached = on.reached;
       bases = λ l numbered. on.bases l numbered ∙ sym (rebased_later f a b on.request l same (λ s listed. let o = h.waiting on.request on.waits in stills s (o.shut s listed) (o.still s listed)));
+      noted = elim on.noted [
+        | inl done ↦ inl done
+        | inr never ↦ inr (never.0, never.1, never.2 ∙ sym made, never.3)
+      ];
     })
   ];
   old = λ l n below. let o = olds l n (h.old l n (subst (λ (x : Outgoing). n < x.base l) same below)) in
@@ -238,6 +301,7 @@ step_sent f a b r same streams cum longer stills olds h = record {
           short = o.short;
           within = let w = o.within in omega (arith, w, longer);
           shut = λ s listed. ap (λ (x : Outgoing). is_sending (x.sending s)) same ∙ o.shut s listed;
+          resets = λ s listed. ap (λ (x : Outgoing). is_resetting (x.sending s)) same ∙ o.resets s listed;
           still = λ s listed. (stills s (o.shut s listed) (o.still s listed)).still;
           below = λ s listed i e here on. let k = o.below s listed i e ((stills s (o.shut s listed) (o.still s listed)).entries i e here on) on in (let c = k.0 in omega (arith, c, cum), k.1);
         }
@@ -250,7 +314,10 @@ step_received f a r t same initial streams more h = record {
   next = let k = h.next in omega (arith, k, taken);
   answered = λ none. taken ∙ h.answered none;
   finished = λ none is. h.finished none (sym result ∙ is);
+  counted = λ is. taken ∙ h.counted (sym result ∙ is);
   fresh = λ q some low is. h.fresh q some (omega (arith, low, taken)) (sym result ∙ is);
+  kept = λ q some next. let k = h.kept q some next in
+      (taken ∙ k.0, elim k.1 [ inl w ↦ inl (w.0, ap (λ (x : Incoming). x.waited) same ∙ w.1) | inr is ↦ inr (result ∙ is) ]);
   waiting = h.waiting;
   bases = elim h.bases [
     | inl even ↦ inl (λ l numbered. even.0 l numbered ∙ ap (λ (x : Incoming). x.base l) (sym same), λ q some le done. even.1 q some (omega (arith, le, taken)) (sym result ∙ done))
@@ -262,6 +329,10 @@ step_received f a r t same initial streams more h = record {
       streams = ap (λ (n : ℕ). list_any (nat_le n) on.request.streams) streams ∙ on.streams;
       reached = λ j some le. more j (on.reached j some le);
       bases = λ l numbered. ap (λ (x : Incoming). x.base l) same ∙ on.bases l numbered;
+      noted = elim on.noted [
+        | inl done ↦ inl (ap (λ (x : Incoming). x.waited) same ∙ done ∙ ap (λ (i : ℕ). Some (noted_done i on.request)) (sym initial))
+        | inr never ↦ inr (ap (λ (x : Incoming). x.waited) same ∙ never.0, result ∙ never.1, taken ∙ never.2, never.3)
+      ];
     })
   ];
   old = h.old;

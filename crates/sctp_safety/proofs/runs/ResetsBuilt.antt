@@ -72,11 +72,13 @@ module _ (f : Format) (n : ℕ) (a : SenderView) (u : Asked) (r : ReceiverView) 
     next = d.step.next;
     answered = d.step.answered;
     finished = d.step.finished;
+    counted = d.step.counted;
     fresh = d.step.fresh;
+    kept = d.step.kept;
     waiting = d.step.waiting;
     bases = elim d.step.bases [
       | inl both ↦ inl (both.0, both.1)
-      | inr x ↦ inr (record { request = x.request; waits = x.waits; taken = x.taken; done = x.done; streams = x.streams; reached = x.reached; bases = x.bases })
+      | inr x ↦ inr (record { request = x.request; waits = x.waits; taken = x.taken; done = x.done; streams = x.streams; reached = x.reached; bases = x.bases; noted = x.noted })
     ];
     old = d.step.old;
     answers = λ x has. absurd has;

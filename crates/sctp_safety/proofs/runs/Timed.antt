@@ -15,9 +15,9 @@ use Rattle.sctp_model.specs.end.Moments.{after_abandoning, is_data_due, given_up
 use Rattle.sctp_model.specs.end.Wearing.{wearing}
 use Rattle.sctp_model.proofs.PacedEnds.{worn_cases}
 use Rattle.sctp_model.specs.end.UserCalls.{SendAnswer, Ticket, Refused, NotOpen, is_established, answer_for, send_answer, send_leaves, is_open, abandoned_at, UserTakes, ResetCall, Begun, NotAgreed, NoStream, reset_leaves, told_leaves, shut_in, shut, AbortAnswer, Aborts, NoPeer, TooLong, abort_leaves, abandons}
-use Rattle.sctp_model.specs.sender.Resetting.{resetting}
+use Rattle.sctp_model.specs.sender.Resetting.{resetting, retried}
 use Rattle.sctp_model.specs.receiver.ResetTaken.{told_of}
-use Rattle.sctp_safety.proofs.runs.Asking.{after_resetting}
+use Rattle.sctp_safety.proofs.runs.Asking.{after_resetting, after_retried}
 use Rattle.sctp_safety.proofs.runs.Renumbering.{after_told}
 use Rattle.sctp_safety.specs.States.{has_agreed}
 use Rattle.sctp_safety.proofs.runs.Dates.{Dated}
@@ -69,7 +69,10 @@ module _ (p : EndView) (u v : Asked) (out back : List Dated) where
       (with_sender e (timed_out e.sender) m (after_marking (format_of e) e.terms.outbound e.sender u p.receiver out back m.going (λ i. true)))
       (record { terms = refl; sender = refl; receiver = refl; moment = refl }) m.phase
   met_again ShutdownAlarm e m = still e _ m (record { terms = refl; sender = refl; receiver = refl; moment = refl }) m.phase
-  met_again ResetAlarm e m = still e _ m (record { terms = refl; sender = refl; receiver = refl; moment = refl }) m.phase
+  met_again ResetAlarm e m =
+      still (record e { sender = retried e.sender }) _
+      (with_sender e (retried e.sender) m (after_retried (format_of e) e.terms.outbound e.sender u p.receiver out back m.going))
+      (record { terms = refl; sender = refl; receiver = refl; moment = refl }) m.phase
   met_again AckAlarm e m = still e _ m (record { terms = refl; sender = refl; receiver = refl; moment = refl }) m.phase
 
   met_rung : (b : Bool) (a : Alarm) (e : EndView) → Met e → Met (rung b a e)

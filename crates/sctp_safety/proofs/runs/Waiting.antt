@@ -16,6 +16,7 @@ use Rattle.sctp_model.specs.end.Building.{EndsFull}
 use Rattle.sctp_model.specs.end.Closing.{hears}
 use Rattle.sctp_model.specs.end.Moments.{after_abandoning, is_data_due, given_up, due_again, rung, ring, rung_all, all_alarms, passed, ticked, waited_in}
 use Rattle.std.specs.Prelude.{find, nat_le, is_some}
+use Rattle.sctp_model.specs.sender.Resetting.{retried}
 use Rattle.sctp_model.specs.sender.Words.{count_up}
 use Rattle.sctp_model.specs.end.UserCalls.{Begun, NotAgreed, NoStream, reset_call, reset_leaves, reset_there, told_leaves, NotOpen, is_established, send_answer, is_open, abandoned_at, UserTakes, shut_in, shut, AbortAnswer, Aborts, NoPeer, TooLong, abort_leaves, called}
 use Rattle.sctp_safety.proofs.lists.Basics.{Has-cases}
@@ -37,6 +38,9 @@ none_is_abandoned e b k = ap (λ (a : SenderView). abandon_after a k) b.sender �
 
 none_marked : (e : EndView) → IsBlank e → timed_out e.sender ≡ e.sender
 none_marked e b = ap timed_out b.sender ∙ timed_fresh e.terms.own_tsn e.terms.outbound e.configuration.fragment b.rwnd e.terms.partial ∙ sym b.sender
+
+none_retried : (e : EndView) → IsBlank e → retried e.sender ≡ e.sender
+none_retried e b = ap retried b.sender ∙ sym b.sender
 
 -- the timers of closing run in open endpoints alone
 no_shutdown_timer : (h : Phase) → never_opened h ≡ true → is_home ShutdownAlarm h ≡ true → ⊥
@@ -76,7 +80,7 @@ module _ (clock : ℕ) where
   again InitAlarm e m on = still clock e _ m (alike e _ refl refl refl refl refl) m.unopened (home_like e _ m.home refl refl refl refl refl)
   again CookieAlarm e m on = still clock e _ m (alike e _ refl refl refl refl refl) m.unopened (home_like e _ m.home refl refl refl refl refl)
   again DataAlarm e m on = still clock e _ m (alike e _ refl refl (none_marked e m.blank) refl refl) m.unopened (home_like e _ m.home refl refl refl refl refl)
-  again ResetAlarm e m on = still clock e _ m (alike e _ refl refl refl refl refl) m.unopened (home_like e _ m.home refl refl refl refl refl)
+  again ResetAlarm e m on = still clock e _ m (alike e _ refl refl (none_retried e m.blank) refl refl) m.unopened (home_like e _ m.home refl refl refl refl refl)
   again ShutdownAlarm e m on = absurd (let r = was_running e.moment (e.timers ShutdownAlarm).expiry on in no_shutdown_timer e.phase m.unopened (m.home.shutdown_runs r.0 r.1))
   again AckAlarm e m on = absurd (let r = was_running e.moment (e.timers AckAlarm).expiry on in no_ack_timer e.phase m.unopened (m.home.ack_runs r.0 r.1))
 

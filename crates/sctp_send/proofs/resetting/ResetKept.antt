@@ -1,15 +1,18 @@
 -- What a sender keeps stands for a view with other resets, where what is kept of these is so.
-use Rattle.std.proofs.Common.{drop, ◌≡◌, ℕ, zero, suc, ◌+◌, ◌%◌, ◌^◌, ◌<◌, ◌≤◌, List, [], ◌∷◌, length, map, get_or, true, Option, Some, None, refl, sym, ap, ◌∙◌, arith}
-use Rattle.std.specs.Prelude.{◌==◌, ◌&&◌, is_some, slice_get, option_map}
+use Rattle.std.proofs.Common.{drop, ◌≡◌, ℕ, zero, suc, ◌+◌, ◌%◌, ◌^◌, ◌<◌, ◌≤◌, List, [], ◌∷◌, length, map, get_or, Bool, true, false, Option, Some, None, refl, sym, ap, ◌∙◌, arith}
+use Rattle.std.specs.Prelude.{◌==◌, ◌&&◌, if◌then◌else◌, nat_lt, is_some, slice_get, option_map}
+use Rattle.std.specs.List.{AllByRecursion}
 use Rattle.std.proofs.lemmas.Bool.Decides.{nat_tests}
 use Rattle.std.proofs.lemmas.List.{length-map}
 use Rattle.std.proofs.lemmas.Option.{slice_get-map, get_or_from_slice_get}
+use Rattle.sctp_model.specs.numbers.Limits.{REQUEST_LIMIT, RESETS_AT_ONCE}
 use Rattle.sctp_model.specs.numbers.Serial.{tsn}
+use Rattle.sctp_model.specs.wire.Reconfig.{is_progress_code, is_number_code}
 use Rattle.sctp_model.specs.messages.Format.{Format, Kind, Ordered, Unordered, Lane}
 use Rattle.sctp_model.specs.messages.Plan.{Entry}
-use Rattle.sctp_model.specs.sender.Outgoing.{Outgoing, Request}
+use Rattle.sctp_model.specs.sender.Outgoing.{Outgoing, Request, LaterNumber, takes_next, is_later}
 use Rattle.sctp_model.specs.sender.SenderView.{SenderView}
-use Rattle.sctp_model.specs.sender.Resetting.{with_resets, may_ask, is_open_number, response_taken, reset_answered, reset_done, reset_refused, asked_again}
+use Rattle.sctp_model.specs.sender.Resetting.{with_resets, may_ask, ready, was_said, first_twice, named_next, is_open_number, response_taken, reset_answered, reset_done, reset_refused, kept_asking, number_back, numbered_so, retried_in}
 use Rattle.sctp_model.specs.sender.Reached.{Rebases}
 use Rattle.sctp_model.proofs.sender.OwedLaws.{is_promised}
 use Rattle.sctp_send.specs.SenderKept.{Item, Track, Kept}
@@ -17,13 +20,14 @@ use Rattle.sctp_send.specs.SenderStands.{item_here, items_from, track_here, Hold
 use Rattle.sctp_send.specs.SenderFields.{track_meaning}
 use Rattle.sctp_send.specs.ForwardKept.{IsForwardKept}
 use Rattle.sctp_send.specs.ResetsKept.{base_by, AreResets}
-use Rattle.sctp_send.specs.inner.Resetting.{begun_anew, number_from}
+use Rattle.sctp_send.specs.inner.Resetting.{begun_anew, number_from, takes_next_in, says_same, named_after}
 use Rattle.sctp_send.specs.declared.kept.track.Track.{Track as TrackFields}
 use Rattle.sctp_send.specs.declared.kept.last_forward.LastForward.{LastForward}
 use Rattle.sctp_send.specs.declared.kept.resets.OutgoingResets.{OutgoingResets}
 use Rattle.sctp_send.proofs.TableLemmas.{length-table}
 use Rattle.sctp_send.proofs.KeepLemmas.{kept_length}
 use Rattle.sctp_send.proofs.fill.AssignLemmas.{track_at}
+use Rattle.sctp_send.proofs.resetting.CountedUp.{all_taken}
 
 -- entries say nothing of resets
 same_items : (v : SenderView) (o : Outgoing) (i : ℕ) (es : List Entry) → items_from v i es ≡ items_from (with_resets o v) i es
@@ -90,11 +94,54 @@ answered_by v number code q on waits = rw (on, waits) refl
 pub is_done : (v : SenderView) (code : ℕ) (q : Request) → code ≤ 1 → reset_answered v code q ≡ reset_done v q
 is_done v code q low = grind (arith, nat_tests, low)
 
-pub is_again : (v : SenderView) (code : ℕ) (q : Request) → 1 < code → code ≡ 6 → reset_answered v code q ≡ asked_again v
-is_again v code q high six = grind (arith, nat_tests, high, six)
+pub is_progress : (v : SenderView) (code : ℕ) (q : Request) → 1 < code → is_progress_code code ≡ true → reset_answered v code q ≡ kept_asking v q
+is_progress v code q high on = grind (arith, nat_tests, high, on)
 
-pub is_refused : (v : SenderView) (code : ℕ) (q : Request) → 1 < code → (code ≡ 6 → ⊥) → reset_answered v code q ≡ reset_refused v q
-is_refused v code q high other = grind (arith, nat_tests, high, other)
+pub is_back : (v : SenderView) (code : ℕ) (q : Request) → 1 < code → is_progress_code code ≡ false → (is_number_code code && is_later q.numbering) ≡ true → reset_answered v code q ≡ number_back v q
+is_back v code q high off on = grind (arith, nat_tests, high, off, on)
+
+pub is_refused : (v : SenderView) (code : ℕ) (q : Request) → 1 < code → is_progress_code code ≡ false → (is_number_code code && is_later q.numbering) ≡ false → reset_answered v code q ≡ reset_refused v q
+is_refused v code q high off other = grind (arith, nat_tests, high, off, other)
+
+-- ---- a request is retransmitted
+
+-- one waits that takes the next number
+pub next_waits : (o : Option Request) → takes_next_in o ≡ true → (q : Request) × (o ≡ Some q) × (takes_next q.numbering ≡ true)
+next_waits None on = absurd (cc)
+next_waits (Some q) on = (q, refl, on)
+
+-- none does
+pub retried_not : (v : SenderView) (o : Option Request) → takes_next_in o ≡ false → retried_in v o ≡ v
+retried_not v None off = refl
+retried_not v (Some q) off = rw off refl
+
+-- no number is left
+pub retried_spent : (v : SenderView) (o : Option Request) → nat_lt v.resets.made REQUEST_LIMIT ≡ false → retried_in v o ≡ v
+retried_spent v None off = refl
+retried_spent v (Some q) off = grind (arith, off)
+
+-- it takes it
+pub retried_next : (v : SenderView) (o : Option Request) (q : Request) → o ≡ Some q → takes_next q.numbering ≡ true → nat_lt v.resets.made REQUEST_LIMIT ≡ true → retried_in v o ≡ numbered_so v (suc v.resets.made) LaterNumber q
+retried_next v o q is on low = rw (is, on, low) refl
+
+-- ---- what a request names
+
+-- whether the last one said the same
+said_is : (v : SenderView) (xs : List ℕ) (o : Option Request) → says_same v.initial (length v.plan.entries) xs o ≡ was_said v o xs
+said_is v xs None = refl
+said_is v xs (Some q) = refl
+
+pub named_is : (v : SenderView) (xs : List ℕ) (o : Option Request) → o ≡ v.resets.last_made → xs ≡ ready v → named_after v.initial (length v.plan.entries) o xs ≡ named_next v
+named_is v xs o last is = rw (last, is, said_is v (ready v) v.resets.last_made) refl
+
+-- all that it names are streams
+twice_all : (P : ℕ → Type 0) (b : Bool) (xs : List ℕ) → AllByRecursion P xs → AllByRecursion P (if b then first_twice xs else xs)
+twice_all P true [] h = tt
+twice_all P true (x ∷ xs) h = all_taken P RESETS_AT_ONCE (x ∷ x ∷ xs) (h.0, (h.0, h.1))
+twice_all P false xs h = h
+
+pub named_all : (P : ℕ → Type 0) (initial last : ℕ) (o : Option Request) (xs : List ℕ) → AllByRecursion P xs → AllByRecursion P (named_after initial last o xs)
+named_all P initial last o xs h = twice_all P (says_same initial last xs o) xs h
 
 -- ---- a request is taken back
 

@@ -14,7 +14,7 @@ use Rattle.sctp_send.specs.declared.kept.track.Track.{Track as TrackFields}
 use Rattle.sctp_send.specs.declared.kept.resets.Sending.{Sending}
 use Rattle.sctp_send.specs.declared.kept.resets.Sending.TheVariants.{Sends, Resets}
 use Rattle.sctp_send.specs.declared.kept.resets.StreamReset.{StreamReset}
-use Rattle.sctp_send.specs.declared.kept.resets.Request.{Request}
+use Rattle.sctp_send.specs.declared.kept.request.Request.{Request}
 use Rattle.sctp_send.specs.declared.kept.resets.ResetTable.{ResetTable}
 use Rattle.sctp_send.proofs.kept.ChangedLemmas.{count_changed}
 use Rattle.sctp_send.proofs.resetting.CountedUp.{filter_alike, get_changed, get_all, length-all}
@@ -92,37 +92,41 @@ anew_waits ts s r = ap (λ (x : Sending). model.is_resetting (sending_meaning x)
 
 -- ---- a table changes
 
--- Streams changed, those that wait are listed if those were that waited, and this request waits.
+-- Streams changed, those that wait are listed if those were that waited, and this request was made last.
 pub record IsListed (t u : ResetTable) (rs : List StreamReset) (r : Option Request) (many : ℕ) : Type 0 where
   pub streams : u.streams.items ≡ rs
   pub listed : min (length t.streams.items) STREAM_LIMIT ≤ vec_capacity t.resetting → t.resetting.items ≡ waiting_of t.streams.items → u.resetting.items ≡ waiting_of rs
   pub capacity : vec_capacity t.resetting ≤ vec_capacity u.resetting
-  pub pending : u.pending ≡ r
+  pub last : u.last_made ≡ r
   pub made : u.made ≡ many
 
 -- a stream was listed, and shut
 pub shut_from : (t t1 t2 : ResetTable) (stream : ℕ) → t1 ≡ record t { resetting = t1.resetting }
     → (min (length t.streams.items) STREAM_LIMIT ≤ vec_capacity t.resetting → t.resetting.items ≡ waiting_of t.streams.items → t1.resetting.items ≡ waiting_of (changed_at (stream_as Resets) stream t.streams.items))
     → vec_capacity t.resetting ≤ vec_capacity t1.resetting → t2 ≡ record t1 { streams = t2.streams } → t2.streams.items ≡ changed_at (stream_as Resets) stream t1.streams.items
-    → IsListed t t2 (changed_at (stream_as Resets) stream t.streams.items) t.pending t.made
+    → IsListed t t2 (changed_at (stream_as Resets) stream t.streams.items) t.last_made t.made
 shut_from t t1 t2 stream one listed capacity two streams = record {
   streams = streams ∙ ap (λ (u : ResetTable). changed_at (stream_as Resets) stream u.streams.items) one;
   listed = λ room was. ap (λ (u : ResetTable). u.resetting.items) two ∙ listed room was;
   capacity = let same = ap (λ (u : ResetTable). vec_capacity u.resetting) two in omega (arith, capacity, same);
-  pending = ap (λ (u : ResetTable). u.pending) two ∙ ap (λ (u : ResetTable). u.pending) one;
+  last = ap (λ (u : ResetTable). u.last_made) two ∙ ap (λ (u : ResetTable). u.last_made) one;
   made = ap (λ (u : ResetTable). u.made) two ∙ ap (λ (u : ResetTable). u.made) one;
 }
 
 -- streams have their response, and are listed no more
 pub answered_from : (t t1 t2 : ResetTable) (f : ℕ → StreamReset → StreamReset) (ss : List ℕ) → ((s : ℕ) (r : StreamReset) → f s (f s r) ≡ f s r) → ((s : ℕ) (r : StreamReset) → model.is_resetting (sending_meaning (f s r).sending) ≡ false)
     → t1 ≡ record t { streams = t1.streams } → t1.streams.items ≡ all_changed f ss t.streams.items → t2 ≡ record t1 { resetting = t2.resetting }
-    → t2.resetting.items ≡ filter (is_resetting_in t1.streams.items) t1.resetting.items → vec_capacity t2.resetting ≡ vec_capacity t1.resetting → IsListed t t2 (all_changed f ss t.streams.items) t.pending t.made
+    → t2.resetting.items ≡ filter (is_resetting_in t1.streams.items) t1.resetting.items → vec_capacity t2.resetting ≡ vec_capacity t1.resetting → IsListed t t2 (all_changed f ss t.streams.items) t.last_made t.made
 answered_from t t1 t2 f ss same off one streams two kept capacity = record {
   streams = ap (λ (u : ResetTable). u.streams.items) two ∙ streams;
   listed = λ room was.
       kept ∙ ap (λ (rs : List StreamReset). filter (is_resetting_in rs) t1.resetting.items) streams
       ∙ ap (filter (is_resetting_in (all_changed f ss t.streams.items))) (ap (λ (u : ResetTable). u.resetting.items) one ∙ was) ∙ listed_without f same off ss t.streams.items;
   capacity = let held = ap (λ (u : ResetTable). vec_capacity u.resetting) one in omega (arith, capacity, held);
-  pending = ap (λ (u : ResetTable). u.pending) two ∙ ap (λ (u : ResetTable). u.pending) one;
+  last = ap (λ (u : ResetTable). u.last_made) two ∙ ap (λ (u : ResetTable). u.last_made) one;
   made = ap (λ (u : ResetTable). u.made) two ∙ ap (λ (u : ResetTable). u.made) one;
 }
+
+-- and the request that was made last has its place again
+pub put_back : (t u : ResetTable) (rs : List StreamReset) (r x : Option Request) (many : ℕ) → IsListed t u rs r many → IsListed t (record u { last_made = x }) rs x many
+put_back t u rs r x many i = record { streams = i.streams; listed = i.listed; capacity = i.capacity; last = refl; made = i.made }

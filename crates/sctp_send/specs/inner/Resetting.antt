@@ -1,5 +1,5 @@
 -- Streams that are reset: whether they are still, and what becomes of what is kept of them (RFC 6525, 5.1).
-use Rattle.std.specs.Prelude.{◌≡◌, ℕ, ◌<◌, ◌≤◌, min, replicate, ◌==◌, nat_lt, if◌then◌else◌, Bool, not, ◌&&◌, List, [], ◌∷◌, ◌++◌, length, map, filter, slice_get, Option, None, Some}
+use Rattle.std.specs.Prelude.{◌≡◌, ℕ, ◌<◌, ◌≤◌, min, replicate, ◌==◌, nat_lt, if◌then◌else◌, Bool, false, not, ◌&&◌, List, [], ◌∷◌, ◌++◌, length, map, filter, slice_get, Option, None, Some}
 use Rattle.std.specs.List.{list_any}
 use Rattle.std.specs.Vec.{vec_capacity}
 use Rattle.std.specs.declared.alloc.Global.{Global}
@@ -8,6 +8,9 @@ use Rattle.sctp_model.specs.numbers.Limits.{STREAM_LIMIT, RESETS_AT_ONCE}
 use Rattle.sctp_model.specs.messages.Format.{Lane}
 use Rattle.sctp_model.specs.sender.Entries.{entry_lane}
 use Rattle.sctp_model.specs.sender.Assigning.{is_on}
+use Rattle.sctp_model.specs.numbers.Serial.{tsn}
+use Rattle.sctp_model.specs.sender.Outgoing.{Request, FirstNumber, takes_next, is_later, are_listed}
+use Rattle.sctp_model.specs.sender.Resetting.{first_twice}
 use Rattle.sctp_model.specs.sender.Words.{count_up}
 use Rattle.sctp_send.specs.OutstandingFields.{item_meaning}
 use Rattle.sctp_send.specs.SenderFields.{queued_by, track_meaning}
@@ -84,4 +87,29 @@ pub record IsFresh (n : ℕ) (t : ResetTable) : Type 0 where
   pub resetting : t.resetting.items ≡ []
   pub room : min n STREAM_LIMIT ≤ vec_capacity t.resetting
   pub made : t.made ≡ 0
-  pub pending : t.pending ≡ None
+  pub last : t.last_made ≡ None
+
+-- ---- requests
+
+-- one that waits takes the next number when it is retransmitted
+abbrev pub takes_next_in : Option Request → Bool
+takes_next_in None = false
+takes_next_in (Some q) = takes_next q.numbering
+
+-- one waits with the number after one under which it was in progress
+abbrev pub is_later_in : Option Request → Bool
+is_later_in None = false
+is_later_in (Some q) = is_later q.numbering
+
+-- a request as it is made
+abbrev pub made_of : (first last : ℕ) → List ℕ → Request
+made_of first last xs = record { first = first; last = last; streams = xs; numbering = FirstNumber }
+
+-- a request said the same as one for these streams, where the last TSN is that of this index
+abbrev pub says_same : (initial last : ℕ) → List ℕ → Option Request → Bool
+says_same initial last xs None = false
+says_same initial last xs (Some q) = (tsn initial q.last == tsn initial last) && are_listed q.streams xs
+
+-- what the next one names, if these streams are ready
+abbrev pub named_after : (initial last : ℕ) → Option Request → List ℕ → List ℕ
+named_after initial last q xs = if says_same initial last xs q then first_twice xs else xs

@@ -19,11 +19,13 @@ use crate::fill::assigning::{Beginning, Next};
 use crate::kept::entry::Content;
 use crate::kept::message::Message;
 use crate::kept::outstanding::Outstanding;
-use crate::kept::pieces::{bytes_of, fits, fragments_of};
+use crate::kept::pieces::{bytes_of, fits};
+use crate::kept::queue::Queue;
 use crate::stock::Stock;
 use crate::told::Told;
 use sctp_framing::Framing;
 use sctp_values::WINDOW;
+use std::alloc::Global;
 use std::sync::Arc;
 
 /// An entry that is to go out: its offset, and whether it went out before.
@@ -90,10 +92,10 @@ impl Told {
             return None;
         }
         let message = stock.queue.get(0);
-        let all = fragments_of(self.fragment, &message.bytes);
+        let all = stock.queue.fragments(0);
         let next = Beginning {
             place: 0,
-            count: all.max(1),
+            count: all,
             turn: stock.turn,
         };
         if !self.lets_begin::<F>(stock, next, message, all, room) {
@@ -148,6 +150,18 @@ impl Told {
         let bytes = bytes_of(message, content, self.fragment).len();
         let flows = again || may_flow(stock.outstanding.flight(), bytes, self.rwnd);
         flows && fits::<F>(bytes, room)
+    }
+}
+
+impl Queue {
+    /// How many fragments the message at a place makes.
+    #[inline(always)]
+    fn fragments(&self, at: usize) -> usize
+        requires { at < length self.now.items }
+        ensures count { (x : Arc Message Global) → x ≡ slice_index_or self.now.items at x → result ≡ length (cut self.now.size x.value.bytes.items) }
+        ensures some { 0 < result }
+    {
+        self.messages[at].fragments()
     }
 }
 

@@ -59,6 +59,7 @@ impl Dues {
     ///
     /// # Errors
     /// `NoMemory`.
+    #[inline(always)]
     pub(crate) fn reserve(&mut self) -> Result<(), NoMemory>
         ensures passed { self.new.passed ≡ self.old.passed }
         ensures moments { self.new.moments ≡ self.old.moments }
@@ -164,10 +165,9 @@ impl Dues {
         self.asleep = false;
     }
 
-    /// A page was begun behind the first one, and it is time to look whether that is passed.
+    /// A page was begun, and it is time to look whether there is one before it, and whether that is passed.
     pub(crate) fn is_due(&self) -> bool {
-        let many = self.moments.len();
-        many > PAGE && many % PAGE == 1
+        self.moments.len() % PAGE == 1
     }
 
     /// The last ticket of the first page, if there is one.

@@ -146,10 +146,9 @@ impl Fates {
         self.abandoned = self.abandoned.wrapping_add(1);
     }
 
-    /// It is time to look whether the next block is over.
+    /// It is time to look whether there is a next block, and whether it is over.
     pub(crate) fn is_due(&self) -> bool {
-        let many = self.recent.len();
-        many >= BLOCK && many % AGAIN == 0
+        self.recent.len() % AGAIN == 0
     }
 
     /// How many blocks may be over.

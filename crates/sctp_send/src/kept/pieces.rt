@@ -30,6 +30,20 @@ pub(crate) fn fragments_of(size: u16, bytes: &[u8]) -> usize
     bytes.len().div_ceil(most)
 }
 
+/// How many fragments of this size the bytes of a message make, of which there is one at least.
+#[inline(always)]
+pub(crate) fn fragments_in(size: u16, bytes: &[u8]) -> usize
+    requires size { 0 < size }
+    requires some { 0 < length bytes.now }
+    ensures { result ≡ length (cut size bytes.now) }
+{
+    let most = usize::from(size);
+    if bytes.len() <= most {
+        return 1;
+    }
+    bytes.len().div_ceil(most)
+}
+
 /// What a message owes with so many unassigned fragments: their TSNs, and one for an end mark.
 pub(crate) fn owed(count: usize) -> u64
     ensures { result ≡ owed_for count % 2 ^ 64 }

@@ -4,7 +4,7 @@ ghost use Rattle.std.specs.Prelude.{◌≡◌, ℕ, ◌+◌, ◌<◌, ◌≤◌,
 ghost use Rattle.std.specs.List.{Contains};
 ghost use Rattle.std.specs.VecDeque.{deque_len};
 ghost use Rattle.sctp_model.specs.numbers.Limits.{LONGEST_MESSAGE};
-ghost use Rattle.sctp_model.specs.sender.Queueing.{owed_by_queue};
+ghost use Rattle.sctp_model.specs.sender.Queueing.{cut, owed_by_queue};
 ghost use Rattle.sctp_model.specs.sender.Abandoning.{waits};
 ghost use Rattle.sctp_send.specs.SenderFields.{queued_by};
 ghost use Rattle.sctp_send.specs.Waiting.{waiting_bytes};
@@ -14,7 +14,7 @@ ghost use Rattle.sctp_sequence.specs.Pairs.{AreSame};
 ghost use Rattle.sctp_sequence.specs.declared.pairs.Pair.{Pair};
 
 use crate::kept::message::{Message, bytes_of};
-use crate::kept::pieces::{fragments_of, owed};
+use crate::kept::pieces::owed;
 use crate::kept::seats::{
     Found, add_seat, first_from, is_in_front, make_place, make_room, next_by_looking,
     next_by_seats, seat_of,
@@ -114,12 +114,18 @@ impl Queue {
         self.bytes
     }
 
-    /// A message waits behind the others, with the owners of its fragments.
+    /// A message of so many fragments waits behind the others, with the owners of these.
     ///
     /// # Errors
     /// `NoMemory`: it doesn't wait.
     #[inline(always)]
-    pub(crate) fn push(&mut self, alloc: Global, message: Arc<Message>) -> Result<(), NoMemory>
+    pub(crate) fn push(
+        &mut self,
+        alloc: Global,
+        message: Arc<Message>,
+        fragments: usize,
+    ) -> Result<(), NoMemory>
+        requires all { fragments ≡ length (cut self.old.size message.value.bytes.items) }
         requires some { 0 < length message.value.bytes.items }
         requires short { length message.value.bytes.items ≤ LONGEST_MESSAGE }
         ensures size { self.new.size ≡ self.old.size }
@@ -128,7 +134,6 @@ impl Queue {
     {
         let seat = seat_of(&message);
         let bytes = bytes_of(&message);
-        let fragments = fragments_of(self.size, &message.bytes);
         let mut others = Vec::new(alloc);
         take_others(&mut others, &message, fragments - 1)?;
         make_room(&mut self.seats, self.is_seated)?;
@@ -155,7 +160,7 @@ impl Queue {
         let waiting = remove_at(&mut self.messages, place)?;
         let message: &Message = &waiting.message;
         let bytes: &[u8] = &message.bytes;
-        let owed = owed(fragments_of(self.size, bytes));
+        let owed = owed(waiting.fragments());
         self.owed = self.owed.wrapping_sub(owed);
         self.bytes = self.bytes.wrapping_sub(bytes.len() as u64);
         take_bytes(&mut self.user_bytes, message);

@@ -1,14 +1,18 @@
 //! What is kept of the resets of outgoing streams (RFC 6525, 5.1): a table, which the first reset allocates.
 
-ghost use Rattle.std.specs.Prelude.{◌≡◌, ◌&&◌, not, is_some, nat_lt, Some, None, MatchOption, slice_get};
+ghost use Rattle.std.specs.Prelude.{◌≡◌, ◌&&◌, ℕ, not, is_some, nat_lt, Some, None, MatchOption, slice_get};
 ghost use Rattle.sctp_send.specs.OutstandingFields.{lane_of};
 ghost use Rattle.sctp_model.specs.numbers.Limits.{REQUEST_LIMIT};
 ghost use Rattle.sctp_model.specs.sender.Outgoing as model;
 ghost use Rattle.sctp_model.specs.sender.Outgoing.{is_sending};
-ghost use Rattle.sctp_send.specs.inner.Resetting.{listed_under};
-ghost use Rattle.sctp_send.specs.ResetsKept.{base_by, base_in, base_of, sending_meaning, sending_there, sending_under, is_resetting_in, made_under, pending_under, request_meaning};
+ghost use Rattle.sctp_model.specs.sender.Resetting.{numbering_of};
+ghost use Rattle.sctp_send.specs.inner.Resetting.{listed_under, takes_next_in, is_later_in};
+ghost use Rattle.sctp_send.specs.ResetsKept.{base_by, base_in, base_of, sending_meaning, sending_there, sending_under, is_resetting_in, made_under, numbering_meaning, pending_under, request_meaning};
 ghost use Rattle.sctp_values.specs.Meanings.{kind_meaning};
 
+use crate::kept::request::{
+    Numbering, Request, is_later, numbering_from, open_request, takes_next, waits,
+};
 use sctp_values::Kind;
 
 /// The most sequence numbers of requests, so that they are within half of their space.
@@ -33,23 +37,15 @@ pub(crate) struct StreamReset {
     pub(crate) sending: Sending,
 }
 
-/// A request that waits for its response: how many requests there were with its first sending, the last index assigned then, and its streams.
-#[derive(Drop)]
-pub(crate) struct Request {
-    pub(crate) first: u32,
-    pub(crate) last: u64,
-    pub(crate) streams: Vec<u16>,
-}
-
 /// All streams, by number; those that wait for their reset, by rising number; by stream an index at which a look for its entries begins; how many
-/// sequence numbers of requests were used; and the request that waits for its response.
+/// sequence numbers of requests were used; and the last request that was made.
 #[derive(Drop)]
 pub(crate) struct ResetTable {
     pub(crate) streams: Vec<StreamReset>,
     pub(crate) resetting: Vec<u16>,
     pub(crate) hints: Vec<u64>,
     pub(crate) made: u32,
-    pub(crate) pending: Option<Request>,
+    pub(crate) last_made: Option<Request>,
 }
 
 /// The resets of a sender. Until the first one there is no table, and all numbers count from 0.
@@ -103,7 +99,7 @@ impl OutgoingResets {
         ensures { result ≡ (not (is_some (pending_under self.now.table)) && nat_lt (made_under self.now.table) REQUEST_LIMIT) }
     {
         match &self.table {
-            Some(table) => table.pending.is_none() && table.made < MOST_REQUESTS,
+            Some(table) => !waits(&table.last_made) && table.made < MOST_REQUESTS,
             None => true,
         }
     }
@@ -131,8 +127,38 @@ impl OutgoingResets {
         ensures { MatchOption result (pending_under self.now.table ≡ None) (λ request. pending_under self.now.table ≡ Some (request_meaning request.now)) }
     {
         match &self.table {
-            Some(table) => table.pending.as_ref(),
+            Some(table) => open_request(&table.last_made),
             None => None,
+        }
+    }
+
+    /// Whether a request waits that is to take the next sequence number when it is retransmitted.
+    pub(crate) fn takes_next(&self) -> bool
+        ensures { result ≡ takes_next_in (pending_under self.now.table) }
+    {
+        match &self.table {
+            Some(table) => takes_next(&table.last_made),
+            None => false,
+        }
+    }
+
+    /// Whether a request waits whose sequence number is the one after a number under which it was in progress.
+    pub(crate) fn is_later(&self) -> bool
+        ensures { result ≡ is_later_in (pending_under self.now.table) }
+    {
+        match &self.table {
+            Some(table) => is_later(&table.last_made),
+            None => false,
+        }
+    }
+
+    /// Which number of the request that waits this one is, if it isn't in progress under it.
+    pub(crate) fn numbering_of(&self, number: u32) -> Numbering
+        ensures { (q : model.Request) → pending_under self.now.table ≡ Some q → numbering_meaning result ≡ numbering_of q number }
+    {
+        match self.pending() {
+            Some(request) => numbering_from(request.first, number),
+            None => Numbering::First,
         }
     }
 

@@ -52,12 +52,29 @@ pub(crate) fn add_bytes(counts: &mut Vec<u32>, message: &Message) -> Result<(), 
     Ok(())
 }
 
-/// A message of user data is queued: its bytes are counted. A function of its own, so that other messages cost one test.
+/// A message of user data is queued: its bytes are counted.
+///
+/// # Errors
+/// `NoMemory`: nothing changes.
+#[inline(always)]
+fn add_user_bytes(counts: &mut Vec<u32>, message: &Message) -> Result<(), NoMemory>
+    requires { has_user_data message.now ≡ true }
+    ensures counted { OnOk result (IsCounted message.now counts.old.items counts.new.items) }
+    ensures refused { OnErr result (counts.new.items ≡ counts.old.items) }
+{
+    if usize::from(message.stream) >= counts.len() {
+        return add_first_bytes(counts, message);
+    }
+    add_there(counts, message);
+    Ok(())
+}
+
+/// A message of user data is queued on a stream that has no count yet: its bytes are counted. It is not inlined: it runs once a stream.
 ///
 /// # Errors
 /// `NoMemory`: nothing changes.
 #[inline(never)]
-fn add_user_bytes(counts: &mut Vec<u32>, message: &Message) -> Result<(), NoMemory>
+fn add_first_bytes(counts: &mut Vec<u32>, message: &Message) -> Result<(), NoMemory>
     requires { has_user_data message.now ≡ true }
     ensures counted { OnOk result (IsCounted message.now counts.old.items counts.new.items) }
     ensures refused { OnErr result (counts.new.items ≡ counts.old.items) }
@@ -106,8 +123,8 @@ pub(crate) fn take_bytes(counts: &mut Vec<u32>, message: &Message)
     }
 }
 
-/// A message of user data leaves the queue: its bytes count no more. A function of its own, so that other messages cost one test.
-#[inline(never)]
+/// A message of user data leaves the queue: its bytes count no more.
+#[inline(always)]
 fn take_user_bytes(counts: &mut Vec<u32>, message: &Message)
     requires user { has_user_data message.now ≡ true }
     requires there { message.now.stream < length counts.old.items }

@@ -1,7 +1,8 @@
 //! A message that waits, with the owners that its fragments will have.
 
-ghost use Rattle.std.specs.Prelude.{◌≡◌, [], length, OnOk};
-ghost use Rattle.sctp_send.specs.inner.Owning.{AreOf};
+ghost use Rattle.std.specs.Prelude.{◌≡◌, ℕ, [], length, OnOk};
+ghost use Rattle.sctp_model.specs.sender.Queueing.{cut};
+ghost use Rattle.sctp_send.specs.inner.Owning.{AreOf, IsOwned};
 
 use crate::kept::message::{Message, shared};
 use sctp_values::NoMemory;
@@ -13,6 +14,16 @@ use std::sync::Arc;
 pub(crate) struct Waiting {
     pub(crate) message: Arc<Message>,
     pub(crate) others: Vec<Arc<Message>>,
+}
+
+impl Waiting {
+    /// How many fragments it makes: each has its owner.
+    #[inline(always)]
+    pub(crate) fn fragments(&self) -> usize
+        ensures { (size : ℕ) → IsOwned size 0 self.now.message self.now.others.items → result ≡ length (cut size self.now.message.value.bytes.items) }
+    {
+        self.others.len().wrapping_add(1)
+    }
 }
 
 /// Takes so many more owners of a message. One with a single fragment takes no memory.

@@ -1,9 +1,8 @@
 //! What a response leaves of the table of resets (RFC 6525, 5.2.7).
 
-ghost use Rattle.std.specs.Prelude.{◌≡◌, ℕ, ◌<◌, suc, nat_lt, if◌then◌else◌, filter, Some, None, slice_get};
+ghost use Rattle.std.specs.Prelude.{◌≡◌, ℕ, ◌<◌, if◌then◌else◌, filter, Some, None, slice_get};
 ghost use Rattle.std.specs.Vec.{vec_capacity};
 ghost use Rattle.sctp_model.specs.messages.Format.{Lane};
-ghost use Rattle.sctp_model.specs.numbers.Limits.{REQUEST_LIMIT};
 ghost use Rattle.sctp_model.specs.sender.Outgoing as model;
 ghost use Rattle.sctp_model.specs.sender.Outgoing.{Outgoing, lists};
 ghost use Rattle.sctp_model.specs.sender.Resetting.{set_to};
@@ -11,9 +10,7 @@ ghost use Rattle.sctp_send.specs.ResetsKept.{AreResets, is_resetting_in};
 ghost use Rattle.sctp_send.specs.inner.Resetting.{all_changed, begun_anew, restarted_by, number_from, refused_by};
 ghost use Rattle.sctp_send.specs.PartsKept.{changed_at};
 
-use crate::kept::resets::{
-    MOST_REQUESTS, OutgoingResets, ResetTable, Sending, StreamReset, is_resetting_at,
-};
+use crate::kept::resets::{OutgoingResets, ResetTable, Sending, StreamReset, is_resetting_at};
 use crate::kept::track::Track;
 use crate::resetting::table::set_sending;
 
@@ -25,9 +22,11 @@ impl OutgoingResets {
     {
         if let Some(table) = &mut self.table {
             let table = &mut **table;
-            if let Some(request) = table.pending.take() {
+            if let Some(mut request) = table.last_made.take() {
                 restart_all(table, tracks, &request.streams);
                 unlist(table);
+                request.numbering = None;
+                table.last_made = Some(request);
             }
         }
     }
@@ -39,21 +38,11 @@ impl OutgoingResets {
     {
         if let Some(table) = &mut self.table {
             let table = &mut **table;
-            if let Some(request) = table.pending.take() {
+            if let Some(mut request) = table.last_made.take() {
                 refuse_all(table, &request.streams);
                 unlist(table);
-            }
-        }
-    }
-
-    /// The request that waits takes the next sequence number, if there is one.
-    pub(crate) fn ask_again(&mut self)
-        ensures { (n : ℕ) (x : Outgoing) (q : model.Request) → AreResets n self.old x → x.pending ≡ Some q
-            → AreResets n self.new (record x { made = if nat_lt x.made REQUEST_LIMIT then suc x.made else x.made }) }
-    {
-        if let Some(table) = &mut self.table {
-            if table.made < MOST_REQUESTS {
-                table.made = table.made.wrapping_add(1);
+                request.numbering = None;
+                table.last_made = Some(request);
             }
         }
     }

@@ -8,14 +8,13 @@ ghost use Rattle.sctp_model.specs.numbers.Lists.{at};
 ghost use Rattle.sctp_model.specs.sender.Outgoing as model;
 ghost use Rattle.sctp_model.specs.sender.Outgoing.{Outgoing};
 ghost use Rattle.sctp_send.specs.PartsKept.{changed_at};
-ghost use Rattle.sctp_send.specs.ResetsKept.{AreResets, is_resetting_in, made_under};
+ghost use Rattle.sctp_send.specs.ResetsKept.{AreResets, IsLastMade, is_resetting_in, made_under, numbering_meaning};
 ghost use Rattle.sctp_send.specs.declared.kept.resets.Sending.TheVariants.{Sends as SendsNow, Resets as ResetsNow};
 ghost use Rattle.sctp_send.specs.inner.Ordering.{before, AreInOrder};
-ghost use Rattle.sctp_send.specs.inner.Resetting.{IsFresh, stream_as, waiting_of};
+ghost use Rattle.sctp_send.specs.inner.Resetting.{IsFresh, made_of, stream_as, waiting_of};
 
-use crate::kept::resets::{
-    OutgoingResets, Request, ResetTable, Sending, StreamReset, is_resetting_at,
-};
+use crate::kept::request::{Numbering, Request};
+use crate::kept::resets::{OutgoingResets, ResetTable, Sending, StreamReset, is_resetting_at};
 use sctp_values::{NoMemory, STREAM_LIMIT};
 use std::alloc::Global;
 
@@ -46,19 +45,26 @@ impl OutgoingResets {
         }
     }
 
-    /// A request is made, for these streams, when this index was the last that was assigned.
-    pub(crate) fn ask(&mut self, last: u64, streams: Vec<u16>)
-        ensures { (n : ℕ) (x : Outgoing) → IsSome self.old.table → made_under self.old.table < REQUEST_LIMIT → AllByRecursion (λ s. s < n) streams.items → AreResets n self.old x
-            → AreResets n self.new (record x { made = suc x.made; pending = Some (record { first = suc x.made; last = last; streams = streams.items }) }) }
+    /// A request is made, for these streams, when this index was the last that was assigned. Returns the last one that was made before.
+    pub(crate) fn ask(&mut self, last: u64, streams: Vec<u16>) -> Option<Request>
+        ensures step { (n : ℕ) (x : Outgoing) → IsSome self.old.table → made_under self.old.table < REQUEST_LIMIT → AllByRecursion (λ s. s < n) streams.items → AreResets n self.old x
+            → AreResets n self.new (record x { made = suc x.made; pending = Some (made_of (suc x.made) last streams.items); last_made = Some (made_of (suc x.made) last streams.items) }) }
+        ensures before { (n : ℕ) (x : Outgoing) → AreResets n self.old x → IsLastMade n result x }
     {
-        if let Some(table) = &mut self.table {
-            let made = table.made.wrapping_add(1);
-            table.made = made;
-            table.pending = Some(Request {
-                first: made,
-                last,
-                streams,
-            });
+        match &mut self.table {
+            Some(table) => {
+                let made = table.made.wrapping_add(1);
+                let before = table.last_made.take();
+                table.made = made;
+                table.last_made = Some(Request {
+                    first: made,
+                    last,
+                    streams,
+                    numbering: Some(Numbering::First),
+                });
+                before
+            }
+            None => None,
         }
     }
 
@@ -71,13 +77,27 @@ impl OutgoingResets {
         }
     }
 
-    /// The request that was made last is taken back, with its sequence number.
-    pub(crate) fn take_back(&mut self)
-        ensures { (n : ℕ) (x : Outgoing) (q : model.Request) → x.pending ≡ None → AreResets n self.old (record x { made = suc x.made; pending = Some q }) → AreResets n self.new x }
+    /// The request that was made last is taken back, with its sequence number; this one was made before.
+    pub(crate) fn take_back(&mut self, before: Option<Request>)
+        ensures { (n : ℕ) (x : Outgoing) (q : model.Request) → x.pending ≡ None → IsLastMade n before x
+            → AreResets n self.old (record x { made = suc x.made; pending = Some q; last_made = Some q }) → AreResets n self.new x }
     {
         if let Some(table) = &mut self.table {
             table.made = table.made.wrapping_sub(1);
-            table.pending = None;
+            table.last_made = before;
+        }
+    }
+
+    /// The request that waits has this number, and so many were used.
+    pub(crate) fn renumber(&mut self, made: u32, numbering: Numbering)
+        ensures { (n : ℕ) (x : Outgoing) (q : model.Request) → AreResets n self.old x → x.pending ≡ Some q
+            → AreResets n self.new (record x { made = made; pending = Some (record q { numbering = numbering_meaning numbering }) }) }
+    {
+        if let Some(table) = &mut self.table {
+            table.made = made;
+            if let Some(request) = &mut table.last_made {
+                request.numbering = Some(numbering);
+            }
         }
     }
 }
@@ -99,7 +119,7 @@ fn fresh_table(alloc: Global, streams: u16) -> Result<Box<ResetTable>, NoMemory>
         resetting,
         hints,
         made: 0,
-        pending: None,
+        last_made: None,
     };
     Box::new(alloc, table).map_err(|_| NoMemory)
 }

@@ -35,7 +35,8 @@ pub enum Event {
         /// Its bytes.
         payload: Payload,
     },
-    /// The channel is closed in both directions, or the association is over. Another one may be opened on its stream.
+    /// A channel that was opened here or reported as incoming is closed in both directions, or the association is over. Another one may be opened on its
+    /// stream.
     Closed {
         /// Its stream.
         stream: u16,
@@ -45,7 +46,8 @@ pub enum Event {
         /// Its stream.
         stream: u16,
     },
-    /// The peer began what opens no channel. What else it sends on the stream is ignored, until it resets the stream.
+    /// The peer began what opens no channel. This side's half of the stream is reset (RFC 8832, 6), and what else the peer sends on it is ignored until it
+    /// resets its half. Then the stream may be used again; no `Closed` is reported.
     Refused {
         /// The stream.
         stream: u16,

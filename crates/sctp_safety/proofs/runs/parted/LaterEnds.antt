@@ -1,32 +1,33 @@
 -- What happens at an endpoint that has met its peer leaves its sender and its receiver as later ones.
-use Rattle.std.proofs.Common.{◌≡◌, ℕ, ◌<◌, ◌≤◌, ◌==◌, ◌&&◌, ◌||◌, not, Bool, true, false, List, [], ◌∷◌, ◌++◌, length, is_some, Option, Some, None, inl, inr, refl, sym, subst, ap, ◌∙◌, eqb-true, if◌then◌else◌}
-use Rattle.std.specs.Prelude.{drop, nat_lt}
+use Rattle.std.proofs.Common.{◌≡◌, ℕ, suc, ◌==◌, ◌&&◌, ◌||◌, not, Bool, true, false, List, [], ◌∷◌, ◌++◌, length, is_some, Option, Some, None, inl, inr, refl, sym, subst, ap, ◌∙◌, eqb-true, if◌then◌else◌}
+use Rattle.std.specs.List.{list_any}
+use Rattle.std.specs.Prelude.{nat_le, drop, nat_lt}
+use Rattle.sctp_model.specs.numbers.Limits.{REQUEST_LIMIT}
 use Rattle.std.proofs.lemmas.Bool.{and_parts}
 use Rattle.sctp_model.specs.numbers.Numbers.{u32_at}
 use Rattle.sctp_model.specs.numbers.Lists.{Has}
 use Rattle.sctp_model.specs.wire.Typed.{Typed, typed_in}
-use Rattle.sctp_model.specs.wire.Reconfig.{RECONFIG, OUTGOING_RESET, RECONFIG_RESPONSE, ResetMeaning, reset_read, is_parameter, is_other_request, response_item, is_done_code, is_progress_code}
+use Rattle.sctp_model.specs.wire.Reconfig.{RECONFIG, OUTGOING_RESET, RECONFIG_RESPONSE, ResetMeaning, reset_read, is_parameter, is_other_request, response_item, is_done_code, is_progress_code, is_number_code}
 use Rattle.sctp_model.specs.wire.Chunk.{PieceMeaning, ForwardMeaning, ChunkMeaning, Data, IData, Init, InitAck, Sack, Heartbeat, HeartbeatAck, Abort, Shutdown, ShutdownAck, Error, CookieEcho, CookieAck, ShutdownComplete, ForwardTsn, IForwardTsn, Unknown}
 use Rattle.sctp_model.specs.wire.Packet.{Packet}
 use Rattle.sctp_model.specs.messages.Format.{Format}
-use Rattle.sctp_model.specs.sender.Outgoing.{Sending, Sends, Resets, Refuses, is_sending, lists, Request, Outgoing}
+use Rattle.sctp_model.specs.sender.Outgoing.{Sending, Sends, Refuses, is_sending, is_resetting, lists, NextNumber, LaterNumber, takes_next, is_later, Request, Outgoing}
 use Rattle.sctp_model.specs.sender.SenderView.{SenderView}
-use Rattle.sctp_model.specs.sender.Resetting.{is_open_number, answered_in, reset_answered, reset_done, reset_refused, asked_again, response_taken, may_ask}
+use Rattle.sctp_model.specs.sender.Resetting.{is_open_number, answered_in, reset_done, reset_refused, kept_asking, number_back, numbered_so, retried_in, retried, response_taken, may_ask, has_stream, ready}
 use Rattle.sctp_model.specs.sender.SackTaken.{sack_taken, shutdown_taken}
 use Rattle.sctp_model.specs.sender.Readers.{point}
 use Rattle.sctp_model.specs.sender.Queueing.{Refusal, refusal}
 use Rattle.sctp_model.specs.sender.Abandoning.{abandon_after, expired, worn, marking}
 use Rattle.sctp_model.specs.sender.Words.{count_up}
 use Rattle.sctp_model.specs.receiver.ReceiverView.{Handed, ReceiverView, IsCumulative}
-use Rattle.sctp_model.specs.receiver.ResetTaken.{reset_answer, answer_in_turn, reset_taken, with_answers, told_of}
+use Rattle.sctp_model.specs.receiver.ResetTaken.{reset_answer, answer_in_turn, told_of}
 use Rattle.sctp_model.specs.receiver.PieceTaken.{PieceAnswer, PieceTaken}
 use Rattle.sctp_model.specs.receiver.ForwardTaken.{ForwardAnswer, ForwardTaken}
 use Rattle.sctp_model.specs.world.Calls.{Call, Asked}
-use Rattle.sctp_model.specs.end.EndView.{Draw, Aborted, AbortedHere, Completed, StaleCookie, TimedOut, Established, ShutdownPending, ShutdownSent, ShutdownReceived, ShutdownAckSent, Phase, Idle, Listening, Calling, Echoing, Open, Over, Alarm, InitAlarm, CookieAlarm, DataAlarm, ShutdownAlarm, AckAlarm, ResetAlarm, EndView, format_of, has_association, unused_timer}
+use Rattle.sctp_model.specs.end.EndView.{Draw, Aborted, TimedOut, Established, ShutdownPending, ShutdownSent, ShutdownReceived, ShutdownAckSent, Phase, Idle, Listening, Calling, Echoing, Open, Over, Alarm, InitAlarm, CookieAlarm, DataAlarm, ShutdownAlarm, AckAlarm, ResetAlarm, EndView, format_of, has_association, unused_timer}
 use Rattle.sctp_model.specs.end.Clock.{closed, with_timer, repeats_of, is_over_at, at_moment, settled, turned, sender_heard, expired_timer, is_home}
 use Rattle.sctp_model.specs.end.Pacing.{Pace}
 use Rattle.sctp_model.specs.end.Closing.{with_due, hears, takes_data, rested}
-use Rattle.sctp_model.specs.end.Reports.{fits_alone}
 use Rattle.sctp_model.specs.end.PeerFaults.{GoesOn, Ends, Replies, Note}
 use Rattle.sctp_model.specs.end.Opening.{AcceptedAck, RefusedAck, EchoedAgain, CookieAcked}
 use Rattle.sctp_model.specs.end.Reconfiguring.{answers_with, request_heard, response_heard, other_heard, asking_on, in_progress, parameter_heard, parameters_heard, asking_now, asking}
@@ -36,60 +37,82 @@ use Rattle.sctp_model.specs.end.Strays.{Verdict}
 use Rattle.sctp_model.specs.end.Wearing.{missed_below, wearing}
 use Rattle.sctp_model.specs.end.Building.{filled_behind, Slot, Puts, NoMore, NotDue, Put, IsFull, Builds, Sleeps, Waits, Calls, Echoes, EndsFull, Fills, EchoSlot, CookieAckSlot, HeartbeatSlot, ErrorSlot, SackSlot, ForwardSlot, ShutdownSlot, ShutdownAckSlot, once_built, room_behind, AnswerSlot, RequestSlot}
 use Rattle.sctp_model.specs.end.Moments.{after_abandoning, is_data_due, given_up, due_again, rung, ring, rung_all, all_alarms, waited_in, passed, ticked}
-use Rattle.sctp_model.specs.end.UserCalls.{is_established, SendAnswer, answer_for, send_answer, send_leaves, NotOpen, is_open, abandoned_at, shut_in, shut, AbortAnswer, Aborts, NoPeer, TooLong, abort_leaves, UserTakes, told_leaves}
+use Rattle.sctp_model.specs.end.UserCalls.{is_established, answer_for, send_answer, send_leaves, NotOpen, is_open, abandoned_at, shut_in, shut, AbortAnswer, Aborts, NoPeer, TooLong, abort_leaves, UserTakes, told_leaves}
 use Rattle.sctp_model.proofs.PacedEnds.{worn_cases}
 use Rattle.sctp_model.proofs.sender.FillLaws.{fill_is_fill}
 use Rattle.sctp_model.proofs.sender.HeardLaws.{heard_cases}
 use Rattle.sctp_model.proofs.sender.WornLaws.{wears_each}
 use Rattle.sctp_safety.proofs.machine.EndWords.{Keeps, all_act_keeps, ended_cases}
-use Rattle.sctp_safety.proofs.machine.Reconfigured.{response_of, parameter_same}
+use Rattle.sctp_safety.proofs.machine.Reconfigured.{response_of, retried_of, parameter_same}
 use Rattle.sctp_safety.proofs.machine.Sides.{unknown_goes, unknown_ends, unknown_never_replies}
 use Rattle.sctp_safety.proofs.machine.Strangers.{found_is}
 use Rattle.sctp_safety.proofs.runs.Acted.{Comes, IsMetWith, not_calling, by_parameter, goes as met_goes, ends as met_ends, replies as met_replies}
 use Rattle.sctp_safety.proofs.runs.Brought.{listens_not}
 use Rattle.sctp_safety.proofs.runs.Dates.{Dated}
-use Rattle.sctp_safety.proofs.runs.Direction.{IsSaid, IsSaidBack, Direction}
+use Rattle.sctp_safety.proofs.runs.Direction.{IsSaid, IsSaidBack}
 use Rattle.sctp_safety.proofs.runs.Pair.{IsMet, views_rested, met_rested}
-use Rattle.sctp_safety.proofs.runs.ResetFacts.{IsAskedBy, IsAnsweredBy, AreAsked, AreAnswers}
+use Rattle.sctp_safety.proofs.runs.ResetFacts.{IsAskedBy, IsAnsweredBy, AreAsked, AreAnswers, IsKept, IsNoted, noted_done, noted_received, noted_sent}
+use Rattle.sctp_safety.proofs.runs.Asking.{progress_kept, never_bad_number}
 use Rattle.sctp_safety.proofs.runs.Sending.{abandon_resets, expire_resets, follows_resets}
 use Rattle.sctp_safety.proofs.runs.parted.Since.{Since, since_same, since_itself, since_on, since_queued, since_filled, since_abandoned, since_worn, since_given_up}
 use Rattle.sctp_safety.proofs.runs.parted.Onward.{Onward, onward_calm, onward_itself, onward_same, onward_on, piece_onward, skip_onward, take_onward, request_onward}
 
 -- ---- a sender
 
-pub record Goes (v u : SenderView) : Type 0 where
+pub record Goes (r : ReceiverView) (v u : SenderView) : Type 0 where
   pub since : Since v u
   -- a stream that takes no message took none before
   pub shut : (s : ℕ) → is_sending (u.resets.sending s) ≡ false → is_sending (v.resets.sending s) ≡ false
+  -- one whose reset is asked for was so before, and what its peer has noted stays so
+  pub resets : (s : ℕ) → is_resetting (u.resets.sending s) ≡ true → is_resetting (v.resets.sending s) ≡ true
+  pub noted : (s : ℕ) → IsNoted v r s → is_resetting (u.resets.sending s) ≡ true → IsNoted u r s
 
 -- nothing else is known of resets
-goes_since : (v u : SenderView) → Since v u → u.resets ≡ v.resets → Goes v u
-goes_since v u since resets = record { since = since; shut = λ s h. subst (λ (x : Outgoing). is_sending (x.sending s) ≡ false) resets h }
+goes_since : (r : ReceiverView) (v u : SenderView) → Since v u → u.resets ≡ v.resets → Goes r v u
+goes_since r v u since resets = record {
+  since = since;
+  shut = λ s h. subst (λ (x : Outgoing). is_sending (x.sending s) ≡ false) resets h;
+  resets = λ s h. subst (λ (x : Outgoing). is_resetting (x.sending s) ≡ true) resets h;
+  noted = λ s k on. noted_sent v u r s (ap (λ (x : Outgoing). x.pending) resets) (ap (λ (x : Outgoing). x.made) resets) k;
+}
 
-goes_itself : (v : SenderView) → Goes v v
-goes_itself v = goes_since v v (since_itself v) refl
+goes_itself : (r : ReceiverView) (v : SenderView) → Goes r v v
+goes_itself r v = goes_since r v v (since_itself v) refl
 
-goes_on : (v u w : SenderView) → Goes v u → Goes u w → Goes v w
-goes_on v u w a b = record { since = since_on v u w a.since b.since; shut = λ s h. a.shut s (b.shut s h) }
+goes_on : (r : ReceiverView) (v u w : SenderView) → Goes r v u → Goes r u w → Goes r v w
+goes_on r v u w a b = record {
+  since = since_on v u w a.since b.since;
+  shut = λ s h. a.shut s (b.shut s h);
+  resets = λ s h. a.resets s (b.resets s h);
+  noted = λ s k on. b.noted s (a.noted s k (b.resets s on)) on;
+}
 
-heard_goes : (o : Option Pace) (now : ℕ) (v u : SenderView) → Goes v u → Goes v (sender_heard o now v u)
-heard_goes o now v u h = heard_cases (Goes v) o now v u h
-    (λ test. goes_on v u (marking u test) h (goes_since u (marking u test) (since_same u (marking u test) refl refl refl) refl))
+heard_goes : (r : ReceiverView) (o : Option Pace) (now : ℕ) (v u : SenderView) → Goes r v u → Goes r v (sender_heard o now v u)
+heard_goes r o now v u h = heard_cases (Goes r v) o now v u h
+    (λ test. goes_on r v u (marking u test) h (goes_since r u (marking u test) (since_same u (marking u test) refl refl refl) refl))
 
 worn_resets : (test : ℕ → Bool) (v : SenderView) → (worn test v).resets ≡ v.resets
 worn_resets test v = wears_each (λ (u : SenderView). u.resets ≡ v.resets) (λ u t same. abandon_resets u t ∙ same) test v (count_up 1 (length v.plan.entries)) refl
 
-given_up_goes : (b : Bool) (v : SenderView) (now : ℕ) → Goes v (given_up b v now)
-given_up_goes b v now = goes_since v (given_up b v now) (since_given_up b v now) (resets b)
+given_up_goes : (r : ReceiverView) (b : Bool) (v : SenderView) (now : ℕ) → Goes r v (given_up b v now)
+given_up_goes r b v now = goes_since r v (given_up b v now) (since_given_up b v now) (resets b)
   where
     resets : (b : Bool) → (given_up b v now).resets ≡ v.resets
     resets true = worn_resets (λ i. true) (expired v now) ∙ expire_resets now (count_up 1 v.tickets) v
     resets false = expire_resets now (count_up 1 v.tickets) v
 
 -- a response: what is refused took no message before
-response_goes : (v : SenderView) (number code : ℕ) → ((q : Request) → v.resets.pending ≡ Some q → (s : ℕ) → lists q.streams s ≡ true → is_sending (v.resets.sending s) ≡ false) →
-    Goes v (response_taken v number code)
-response_goes v number code open_shut = record { since = since; shut = λ s. shut (is_open_number v number) s }
+response_goes : (r : ReceiverView) (v : SenderView) (number code : ℕ) →
+    ((q : Request) → v.resets.pending ≡ Some q → (s : ℕ) → lists q.streams s ≡ true → (is_sending (v.resets.sending s) ≡ false) × (is_resetting (v.resets.sending s) ≡ true)) →
+    (is_open_number v number ≡ true → is_progress_code code ≡ true → IsKept v r) →
+    ((q : Request) → v.resets.pending ≡ Some q → is_open_number v number ≡ true → is_progress_code code ≡ false → is_number_code code ≡ true → ⊥) →
+    Goes r v (response_taken v number code)
+response_goes r v number code open_shut keeps no_other = record {
+  since = since;
+  shut = λ s. shut (is_open_number v number) s;
+  resets = λ s. resets (is_open_number v number) s;
+  noted = λ s k. noted s k (is_open_number v number) refl v.resets.pending refl;
+}
   where
     since : Since v (response_taken v number code)
     since =
@@ -98,64 +121,173 @@ response_goes v number code open_shut = record { since = since; shut = λ s. shu
 
     set : (q : Request) (x : Sending) (s : ℕ) → v.resets.pending ≡ Some q → (b : Bool) → lists q.streams s ≡ b → is_sending (if b then x else v.resets.sending s) ≡ false →
         is_sending (v.resets.sending s) ≡ false
-    set q x s waits true listed h = open_shut q waits s listed
+    set q x s waits true listed h = (open_shut q waits s listed).0
     set q x s waits false listed h = h
 
-    answered : (q : Request) (s : ℕ) → v.resets.pending ≡ Some q → (b c : Bool) → is_sending ((if b then reset_done v q else if c then asked_again v else reset_refused v q).resets.sending s) ≡ false →
+    answered : (q : Request) (s : ℕ) → v.resets.pending ≡ Some q → (b c d : Bool) →
+        is_sending ((if b then reset_done v q else if c then kept_asking v q else if d then number_back v q else reset_refused v q).resets.sending s) ≡ false →
         is_sending (v.resets.sending s) ≡ false
-    answered q s waits true c h = set q Sends s waits (lists q.streams s) refl h
-    answered q s waits false true h = h
-    answered q s waits false false h = set q Refuses s waits (lists q.streams s) refl h
+    answered q s waits true c d h = set q Sends s waits (lists q.streams s) refl h
+    answered q s waits false true d h = h
+    answered q s waits false false true h = h
+    answered q s waits false false false h = set q Refuses s waits (lists q.streams s) refl h
 
     by_request : (o : Option Request) (s : ℕ) → v.resets.pending ≡ o → is_sending ((answered_in v code o).resets.sending s) ≡ false → is_sending (v.resets.sending s) ≡ false
     by_request None s waits h = h
-    by_request (Some q) s waits h = answered q s waits (is_done_code code) (is_progress_code code) h
+    by_request (Some q) s waits h = answered q s waits (is_done_code code) (is_progress_code code) (is_number_code code && is_later q.numbering) h
 
     shut : (b : Bool) (s : ℕ) → is_sending ((if b then answered_in v code v.resets.pending else v).resets.sending s) ≡ false → is_sending (v.resets.sending s) ≡ false
     shut false s h = h
     shut true s h = by_request v.resets.pending s refl h
 
+    -- no stream is reset by it
+    set_resets : (q : Request) (x : Sending) (s : ℕ) → v.resets.pending ≡ Some q → (b : Bool) → lists q.streams s ≡ b → is_resetting (if b then x else v.resets.sending s) ≡ true →
+        is_resetting (v.resets.sending s) ≡ true
+    set_resets q x s waits true listed h = (open_shut q waits s listed).1
+    set_resets q x s waits false listed h = h
+
+    resets_by : (q : Request) (s : ℕ) → v.resets.pending ≡ Some q → (b c d : Bool) →
+        is_resetting ((if b then reset_done v q else if c then kept_asking v q else if d then number_back v q else reset_refused v q).resets.sending s) ≡ true →
+        is_resetting (v.resets.sending s) ≡ true
+    resets_by q s waits true c d h = set_resets q Sends s waits (lists q.streams s) refl h
+    resets_by q s waits false true d h = h
+    resets_by q s waits false false true h = h
+    resets_by q s waits false false false h = set_resets q Refuses s waits (lists q.streams s) refl h
+
+    resets_in : (o : Option Request) (s : ℕ) → v.resets.pending ≡ o → is_resetting ((answered_in v code o).resets.sending s) ≡ true → is_resetting (v.resets.sending s) ≡ true
+    resets_in None s waits h = h
+    resets_in (Some q) s waits h = resets_by q s waits (is_done_code code) (is_progress_code code) (is_number_code code && is_later q.numbering) h
+
+    resets : (b : Bool) (s : ℕ) → is_resetting ((if b then answered_in v code v.resets.pending else v).resets.sending s) ≡ true → is_resetting (v.resets.sending s) ≡ true
+    resets false s h = h
+    resets true s h = resets_in v.resets.pending s refl h
+
+    -- what is set otherwise isn't reset any more
+    set_off : (q : Request) (x : Sending) (s : ℕ) → is_resetting x ≡ false → (b : Bool) → b ≡ true → is_resetting (if b then x else v.resets.sending s) ≡ true → ⊥
+    set_off q x s off true listed on = cc (off, on)
+    set_off q x s off false listed on = cc
+
+    its : (q : Request) (s : ℕ) (k : IsNoted v r s) → v.resets.pending ≡ Some q → k.request ≡ q
+    its q s k waits = let w = k.waits in cc (w, waits)
+
+    listed : (q : Request) (s : ℕ) (k : IsNoted v r s) → v.resets.pending ≡ Some q → lists q.streams s ≡ true
+    listed q s k waits = subst (λ (z : Request). lists z.streams s ≡ true) (its q s k waits) k.named
+
+    -- one that is noted stays so, as long as its response leaves it
+    noted_by : (q : Request) (s : ℕ) (k : IsNoted v r s) → v.resets.pending ≡ Some q → is_open_number v number ≡ true → (b c d : Bool) → is_progress_code code ≡ c →
+        (is_number_code code && is_later q.numbering) ≡ d →
+        is_resetting ((if b then reset_done v q else if c then kept_asking v q else if d then number_back v q else reset_refused v q).resets.sending s) ≡ true →
+        IsNoted (if b then reset_done v q else if c then kept_asking v q else if d then number_back v q else reset_refused v q) r s
+    noted_by q s k waits is_open true c d progress other on = absurd (set_off q Sends s refl (lists q.streams s) (listed q s k waits) on)
+    noted_by q s k waits is_open false true d progress other on = let same = its q s k waits in record {
+      request = record q { numbering = NextNumber };
+      waits = refl;
+      named = listed q s k waits;
+      there = subst (λ (z : Request). list_any (nat_le r.streams) z.streams ≡ false) same k.there;
+      done = inl (elim k.done [
+        | inl done ↦ subst (λ (z : Request). r.resets.waited ≡ Some (noted_done r.initial z)) same done
+        | inr never ↦ absurd (elim (keeps is_open progress).1 [
+          | inl was ↦ let h = never.0 in let w = was.1 in cc (h, w)
+          | inr is ↦ let h = never.1 in cc (h, is)
+        ])
+      ]);
+    }
+    noted_by q s k waits is_open false false true progress other on = absurd (no_other q waits is_open progress (and_parts (is_number_code code) (is_later q.numbering) other).0)
+    noted_by q s k waits is_open false false false progress other on = absurd (set_off q Refuses s refl (lists q.streams s) (listed q s k waits) on)
+
+    noted : (s : ℕ) (k : IsNoted v r s) (b : Bool) → is_open_number v number ≡ b → (o : Option Request) → v.resets.pending ≡ o →
+        is_resetting ((if b then answered_in v code o else v).resets.sending s) ≡ true → IsNoted (if b then answered_in v code o else v) r s
+    noted s k false is_open o waits on = k
+    noted s k true is_open None waits on = k
+    noted s k true is_open (Some q) waits on = noted_by q s k waits is_open (is_done_code code) (is_progress_code code) (is_number_code code && is_later q.numbering) refl refl on
+
+-- a request that is retransmitted
+retried_goes : (r : ReceiverView) (v : SenderView) → Goes r v (retried v)
+retried_goes r v = record { since = since; shut = λ s. shut s v.resets.pending; resets = λ s. resets s v.resets.pending; noted = λ s k on. noted s k v.resets.pending refl }
+  where
+    since : Since v (retried v)
+    since =
+        let same = retried_of v in
+        since_same v (retried v) (ap (λ (a : SenderView). a.plan) same.1) (ap (λ (a : SenderView). a.queue) same.1) (ap (λ (a : SenderView). a.tickets) same.1)
+
+    by : (q : Request) (s : ℕ) (b : Bool) → is_sending ((if b then numbered_so v (suc v.resets.made) LaterNumber q else v).resets.sending s) ≡ false → is_sending (v.resets.sending s) ≡ false
+    by q s true h = h
+    by q s false h = h
+
+    shut : (s : ℕ) (o : Option Request) → is_sending ((retried_in v o).resets.sending s) ≡ false → is_sending (v.resets.sending s) ≡ false
+    shut s None h = h
+    shut s (Some q) h = by q s (takes_next q.numbering && nat_lt v.resets.made REQUEST_LIMIT) h
+
+    resets_by : (q : Request) (s : ℕ) (b : Bool) → is_resetting ((if b then numbered_so v (suc v.resets.made) LaterNumber q else v).resets.sending s) ≡ true → is_resetting (v.resets.sending s) ≡ true
+    resets_by q s true h = h
+    resets_by q s false h = h
+
+    resets : (s : ℕ) (o : Option Request) → is_resetting ((retried_in v o).resets.sending s) ≡ true → is_resetting (v.resets.sending s) ≡ true
+    resets s None h = h
+    resets s (Some q) h = resets_by q s (takes_next q.numbering && nat_lt v.resets.made REQUEST_LIMIT) h
+
+    noted_by : (q : Request) (s : ℕ) → IsNoted v r s → v.resets.pending ≡ Some q → (b : Bool) → (takes_next q.numbering && nat_lt v.resets.made REQUEST_LIMIT) ≡ b →
+        IsNoted (if b then numbered_so v (suc v.resets.made) LaterNumber q else v) r s
+    noted_by q s k waits false off = k
+    noted_by q s k waits true on =
+        let same : k.request ≡ q = let w = k.waits in cc (w, waits) in
+        let next = (and_parts (takes_next q.numbering) (nat_lt v.resets.made REQUEST_LIMIT) on).0 in
+        record {
+          request = record q { numbering = LaterNumber };
+          waits = refl;
+          named = subst (λ (z : Request). lists z.streams s ≡ true) same k.named;
+          there = subst (λ (z : Request). list_any (nat_le r.streams) z.streams ≡ false) same k.there;
+          done = inl (elim k.done [
+            | inl done ↦ subst (λ (z : Request). r.resets.waited ≡ Some (noted_done r.initial z)) same done
+            | inr never ↦ absurd (let off = subst (λ (z : Request). takes_next z.numbering ≡ false) same never.3 in cc (off, next))
+          ]);
+        }
+
+    noted : (s : ℕ) → IsNoted v r s → (o : Option Request) → v.resets.pending ≡ o → IsNoted (retried_in v o) r s
+    noted s k None waits = k
+    noted s k (Some q) waits = noted_by q s k waits (takes_next q.numbering && nat_lt v.resets.made REQUEST_LIMIT) refl
+
 -- ---- an endpoint, beside its peer
 
 pub record LaterEnd (p e t : EndView) : Type 0 where
-  pub sender : Goes e.sender t.sender
+  pub sender : Goes p.receiver e.sender t.sender
   pub receiver : Onward p.sender e.receiver t.receiver
 
-pub later_views : (p e t : EndView) (a : SenderView) (r : ReceiverView) → t.sender ≡ a → t.receiver ≡ r → Goes e.sender a → Onward p.sender e.receiver r → LaterEnd p e t
+pub later_views : (p e t : EndView) (a : SenderView) (r : ReceiverView) → t.sender ≡ a → t.receiver ≡ r → Goes p.receiver e.sender a → Onward p.sender e.receiver r → LaterEnd p e t
 later_views p e t a r sender receiver goes onward = record {
-  sender = subst (Goes e.sender) (sym sender) goes;
+  sender = subst (Goes p.receiver e.sender) (sym sender) goes;
   receiver = subst (Onward p.sender e.receiver) (sym receiver) onward;
 }
 
 pub later_same : (p e t : EndView) → t.sender ≡ e.sender → t.receiver ≡ e.receiver → LaterEnd p e t
-later_same p e t sender receiver = later_views p e t e.sender e.receiver sender receiver (goes_itself e.sender) (onward_itself p.sender e.receiver)
+later_same p e t sender receiver = later_views p e t e.sender e.receiver sender receiver (goes_itself p.receiver e.sender) (onward_itself p.sender e.receiver)
 
 pub later_itself : (p e : EndView) → LaterEnd p e e
 later_itself p e = later_same p e e refl refl
 
-later_sender : (p e t : EndView) → Goes e.sender t.sender → t.receiver ≡ e.receiver → LaterEnd p e t
+later_sender : (p e t : EndView) → Goes p.receiver e.sender t.sender → t.receiver ≡ e.receiver → LaterEnd p e t
 later_sender p e t goes same = record { sender = goes; receiver = onward_same p.sender e.receiver t.receiver same }
 
 later_receiver : (p e t : EndView) → t.sender ≡ e.sender → Onward p.sender e.receiver t.receiver → LaterEnd p e t
-later_receiver p e t same onward = record { sender = subst (Goes e.sender) (sym same) (goes_itself e.sender); receiver = onward }
+later_receiver p e t same onward = record { sender = subst (Goes p.receiver e.sender) (sym same) (goes_itself p.receiver e.sender); receiver = onward }
 
 pub later_on : (p e t u : EndView) → LaterEnd p e t → LaterEnd p t u → LaterEnd p e u
 later_on p e t u a b = record {
-  sender = goes_on e.sender t.sender u.sender a.sender b.sender;
+  sender = goes_on p.receiver e.sender t.sender u.sender a.sender b.sender;
   receiver = onward_on p.sender e.receiver t.receiver u.receiver a.receiver b.receiver;
 }
 
 later_rested : (p e : EndView) → LaterEnd p e (rested e)
 later_rested p e = later_same p e (rested e) (views_rested e).sender (views_rested e).receiver
 
-later_abandoning : (p e : EndView) (a : SenderView) → Goes e.sender a → LaterEnd p e (after_abandoning e a)
+later_abandoning : (p e : EndView) (a : SenderView) → Goes p.receiver e.sender a → LaterEnd p e (after_abandoning e a)
 later_abandoning p e a goes =
     let x = settled (record e { sender = a; due = record e.due { forward = e.due.forward || not (point a == point e.sender) } }) in
     later_views p e (after_abandoning e a) a e.receiver (views_rested x).sender (views_rested x).receiver goes (onward_itself p.sender e.receiver)
 
 later_worn : (p : EndView) (from : ℕ) (e : EndView) → LaterEnd p e (wearing from e)
 later_worn p from e = worn_cases (LaterEnd p e) from e (later_itself p e)
-    (λ test on. later_abandoning p e (worn test e.sender) (goes_since e.sender (worn test e.sender) (since_worn test e.sender) (worn_resets test e.sender)))
+    (λ test on. later_abandoning p e (worn test e.sender) (goes_since p.receiver e.sender (worn test e.sender) (since_worn test e.sender) (worn_resets test e.sender)))
 
 -- ---- a chunk
 
@@ -209,24 +341,29 @@ module _ (p : EndView) (u v : Asked) (out back : List Dated) (many : ℕ) where
       go true = later_itself p e
       go false = later_same p e (with_timer ResetAlarm unused_timer (with_due (record e.due { request = false }) e)) refl refl
 
-  by_response : (e : EndView) (number code : ℕ) → Met e → LaterEnd p e (response_heard e number code)
-  by_response e number code m =
+  by_response : (e : EndView) (x : Typed) → Met e → IsAnsweredBy p.receiver.initial p.receiver x → LaterEnd p e (response_heard e (u32_at x.value) (u32_at (drop 4 x.value)))
+  by_response e x m answer =
+      let number = u32_at x.value in
+      let code = u32_at (drop 4 x.value) in
       let t = record e { sender = response_taken e.sender number code } in
-      let b = is_open_number e.sender number && is_progress_code code in
-      let first : LaterEnd p e t = later_sender p e t (response_goes e.sender number code (λ q waits s listed. (m.met.going.step.waiting q waits).shut s listed)) refl in
+      let b = is_open_number e.sender number in
+      let first : LaterEnd p e t = later_sender p e t (response_goes p.receiver e.sender number code
+          (λ q waits s listed. let o = m.met.going.step.waiting q waits in (o.shut s listed, o.resets s listed))
+          (progress_kept (format_of e) e.terms.outbound e.sender u p.receiver out back m.met.going x answer)
+          (never_bad_number (format_of e) e.terms.outbound e.sender u p.receiver out back m.met.going x answer)) refl in
       later_on p e t (response_heard e number code) first
       (later_on p t (in_progress b t) (response_heard e number code) (in_progress_same b t) (asking_on_same (in_progress b t)))
 
   by_parameter_later : (c : ℕ) (e : EndView) (x : Typed) → (is_parameter OUTGOING_RESET 12 x ≡ true → IsAskedBy p.sender.initial p.sender (reset_read x)) → is_other_request x ≡ false →
-      Met e → IsCumulative e.receiver c → LaterEnd p e (parameter_heard c e x)
-  by_parameter_later c e x ask other m cumulative = go (is_parameter OUTGOING_RESET 12 x) refl (is_parameter RECONFIG_RESPONSE 8 x) (is_other_request x) other
+      (is_parameter RECONFIG_RESPONSE 8 x ≡ true → IsAnsweredBy p.receiver.initial p.receiver x) → Met e → IsCumulative e.receiver c → LaterEnd p e (parameter_heard c e x)
+  by_parameter_later c e x ask other answer m cumulative = go (is_parameter OUTGOING_RESET 12 x) refl (is_parameter RECONFIG_RESPONSE 8 x) refl (is_other_request x) other
     where
-      go : (b : Bool) → is_parameter OUTGOING_RESET 12 x ≡ b → (d o : Bool) → o ≡ false →
+      go : (b : Bool) → is_parameter OUTGOING_RESET 12 x ≡ b → (d : Bool) → is_parameter RECONFIG_RESPONSE 8 x ≡ d → (o : Bool) → o ≡ false →
           LaterEnd p e (if b then request_heard c e (reset_read x) else if d then response_heard e (u32_at x.value) (u32_at (drop 4 x.value)) else if o then other_heard e (u32_at x.value) else e)
-      go true on d o unasked = by_request c e (reset_read x) m cumulative (ask on)
-      go false off true o unasked = by_response e (u32_at x.value) (u32_at (drop 4 x.value)) m
-      go false off false true unasked = absurd (cc)
-      go false off false false unasked = later_itself p e
+      go true on d is o unasked = by_request c e (reset_read x) m cumulative (ask on)
+      go false off true is o unasked = by_response e x m (answer is)
+      go false off false is true unasked = absurd (cc)
+      go false off false is false unasked = later_itself p e
 
   by_parameters : (c : ℕ) (xs : List Typed) → AreAsked p.sender.initial p.sender xs → AreAnswers p.receiver.initial p.receiver xs → (e : EndView) → Met e → IsCumulative e.receiver c →
       LaterEnd p e (parameters_heard c e xs)
@@ -234,7 +371,7 @@ module _ (p : EndView) (u v : Asked) (out back : List Dated) (many : ℕ) where
   by_parameters c (x ∷ xs) asks answers e m cumulative =
       let one = asks x (inl refl) in
       let mid = parameter_heard c e x in
-      later_on p e mid (parameters_heard c mid xs) (by_parameter_later c e x one.0 one.1 m cumulative)
+      later_on p e mid (parameters_heard c mid xs) (by_parameter_later c e x one.0 one.1 (answers x (inl refl)) m cumulative)
       (by_parameters c xs (λ y has. asks y (inr has)) (λ y has. answers y (inr has)) mid
       (by_parameter p u v out back many c e x one.0 one.1 (answers x (inl refl)) m cumulative)
       (let same = (parameter_same c e x).receiver in subst (λ (r : ReceiverView). IsCumulative r c) (sym same.1) (record { reached = cumulative.reached; open_end = cumulative.open_end })))
@@ -246,14 +383,14 @@ module _ (p : EndView) (u v : Asked) (out back : List Dated) (many : ℕ) where
   goes e tag (InitAck i) y t has m (AcceptedAck d cookie is tagged value fault) = absurd (not_calling e.phase d is m.met.phase)
   goes e tag (Sack s) y t has m (SackStale hears fault) = later_same p e t refl refl
   goes e tag (Sack s) y t has m (SackCounts hears none) =
-      later_sender p e t (heard_goes e.pace e.moment e.sender (sack_taken e.sender s) (goes_since e.sender (sack_taken e.sender s) (since_same e.sender (sack_taken e.sender s) refl refl refl) refl)) refl
+      later_sender p e t (heard_goes p.receiver e.pace e.moment e.sender (sack_taken e.sender s) (goes_since p.receiver e.sender (sack_taken e.sender s) (since_same e.sender (sack_taken e.sender s) refl refl refl) refl)) refl
   goes e tag (Heartbeat i) y t has m (HeartbeatCounts hears) = later_same p e t refl refl
   goes e tag (HeartbeatAck i) y t has m h = let q : t ≡ e = cc in subst (LaterEnd p e) (sym q) (later_itself p e)
   goes e tag (Abort b xs) y t has m h = absurd (cc)
   goes e tag (Shutdown n) y t has m (ShutdownStale k g is hears fault) = later_same p e t refl refl
   goes e tag (Shutdown n) y t has m (ShutdownCounts k g is hears none) =
-      later_sender p e t (heard_goes e.pace e.moment e.sender (shutdown_taken e.sender n)
-      (goes_since e.sender (shutdown_taken e.sender n) (since_same e.sender (shutdown_taken e.sender n) refl refl refl) refl)) refl
+      later_sender p e t (heard_goes p.receiver e.pace e.moment e.sender (shutdown_taken e.sender n)
+      (goes_since p.receiver e.sender (shutdown_taken e.sender n) (since_same e.sender (shutdown_taken e.sender n) refl refl refl) refl)) refl
   goes e tag (Shutdown n) y t has m (Crosses k is) = later_same p e t refl refl
   goes e tag (Shutdown n) y t has m (Again k is) = later_same p e t refl refl
   goes e tag ShutdownAck y t has m h = elim h [ ]
@@ -356,9 +493,9 @@ later_built p EchoSlot e = later_same p e _ refl refl
 later_built p CookieAckSlot e = later_same p e _ refl refl
 later_built p HeartbeatSlot e = later_same p e _ refl refl
 later_built p ErrorSlot e = later_same p e _ refl refl
-later_built p SackSlot e = later_receiver p e _ refl (onward_calm p.sender e.receiver _ (λ j h. h) refl (λ s. refl) (λ s n is. is))
+later_built p SackSlot e = later_receiver p e _ refl (onward_calm p.sender e.receiver _ (λ j h. h) refl (λ s. refl) (λ s n is. is) (λ s k. noted_received p.sender e.receiver _ s refl refl refl refl refl k))
 later_built p ForwardSlot e = later_same p e _ refl refl
-later_built p AnswerSlot e = later_receiver p e _ refl (onward_calm p.sender e.receiver _ (λ j h. h) refl (λ s. refl) (λ s n is. is))
+later_built p AnswerSlot e = later_receiver p e _ refl (onward_calm p.sender e.receiver _ (λ j h. h) refl (λ s. refl) (λ s n is. is) (λ s k. noted_received p.sender e.receiver _ s refl refl refl refl refl k))
 later_built p RequestSlot e = later_same p e _ refl refl
 later_built p ShutdownSlot e = later_same p e _ refl refl
 later_built p ShutdownAckSlot e = later_same p e _ refl refl
@@ -370,11 +507,21 @@ later_puts p ss e xs zs full t (Put s more _ x _ _ _ _ due wants room rest) = la
 later_puts p ss e xs zs full t (IsFull _ _ _ _ _ due wants room) = later_itself p e
 
 later_asking : (p e : EndView) → LaterEnd p e (asking e)
-later_asking p e = go (e.terms.reset && (is_home ResetAlarm e.phase && may_ask e.sender))
+later_asking p e = go (e.terms.reset && (is_home ResetAlarm e.phase && may_ask e.sender)) refl
   where
-    go : (b : Bool) → LaterEnd p e (asking_now b e)
-    go true = later_sender p e (asking_now true e) (record { since = since_same e.sender _ refl refl refl; shut = λ s h. h }) refl
-    go false = later_itself p e
+    -- none is outstanding then
+    none_waits : may_ask e.sender ≡ true → (s : ℕ) → IsNoted e.sender p.receiver s → ⊥
+    none_waits may s k =
+        let free = (and_parts (not (is_some e.sender.resets.pending)) (has_stream (ready e.sender) && nat_lt e.sender.resets.made REQUEST_LIMIT) may).0 in
+        let z : false ≡ true = subst (λ (o : Option Request). not (is_some o) ≡ true) k.waits free in
+        cc
+
+    go : (b : Bool) → (e.terms.reset && (is_home ResetAlarm e.phase && may_ask e.sender)) ≡ b → LaterEnd p e (asking_now b e)
+    go true on =
+        let may = (and_parts (is_home ResetAlarm e.phase) (may_ask e.sender) (and_parts e.terms.reset (is_home ResetAlarm e.phase && may_ask e.sender) on).1).1 in
+        later_sender p e (asking_now true e)
+            (record { since = since_same e.sender _ refl refl refl; shut = λ s h. h; resets = λ s h. h; noted = λ s k on_it. absurd (none_waits may s k) }) refl
+    go false off = later_itself p e
 
 pub builds_later : (p e : EndView) (zs : List ChunkMeaning) (t : EndView) → Builds e zs t → LaterEnd p e t
 builds_later p e zs t (Sleeps _) = later_itself p e
@@ -384,8 +531,8 @@ builds_later p e zs t (Echoes _ _ _ full _ is puts) = later_puts p _ e [] zs ful
 builds_later p e zs t (EndsFull _ _ _ _ is puts) = later_on p e (asking e) t (later_asking p e) (later_puts p _ (asking e) [] zs true t puts)
 builds_later p e zs t (Fills _ _ ys x is puts) =
     let follows = (fill_is_fill (format_of x) (room_behind x ys) x.sender).follows in
-    let fills : Goes x.sender (filled_behind x ys).view =
-    goes_since x.sender (filled_behind x ys).view (since_filled (format_of x) x.sender (room_behind x ys) (filled_behind x ys).wishes (filled_behind x ys).view follows)
+    let fills : Goes p.receiver x.sender (filled_behind x ys).view =
+    goes_since p.receiver x.sender (filled_behind x ys).view (since_filled (format_of x) x.sender (room_behind x ys) (filled_behind x ys).wishes (filled_behind x ys).view follows)
     (follows_resets (format_of x) x.sender (room_behind x ys) (filled_behind x ys).wishes (filled_behind x ys).view follows).last in
     later_on p e x t (later_on p e (asking e) x (later_asking p e) (later_puts p _ (asking e) [] ys false x puts)) (later_sender p x t fills refl)
 
@@ -394,10 +541,10 @@ builds_later p e zs t (Fills _ _ ys x is puts) =
 later_again : (p : EndView) (a : Alarm) (e : EndView) → LaterEnd p e (due_again a e)
 later_again p InitAlarm e = later_same p e _ refl refl
 later_again p CookieAlarm e = later_same p e _ refl refl
-later_again p DataAlarm e = later_sender p e _ (goes_since e.sender (marking e.sender (λ i. true)) (since_same e.sender (marking e.sender (λ i. true)) refl refl refl) refl) refl
+later_again p DataAlarm e = later_sender p e _ (goes_since p.receiver e.sender (marking e.sender (λ i. true)) (since_same e.sender (marking e.sender (λ i. true)) refl refl refl) refl) refl
 later_again p ShutdownAlarm e = later_same p e _ refl refl
 later_again p AckAlarm e = later_same p e _ refl refl
-later_again p ResetAlarm e = later_same p e _ refl refl
+later_again p ResetAlarm e = later_sender p e _ (retried_goes p.receiver e.sender) refl
 
 later_rung : (p : EndView) (b : Bool) (a : Alarm) (e : EndView) → LaterEnd p e (rung b a e)
 later_rung p false a e = later_itself p e
@@ -424,7 +571,7 @@ ticked_later p e now = go (has_association e.phase)
         let m = at_moment e now in
         let x = after_abandoning m (given_up (is_data_due m) m.sender m.moment) in
         let rang = rung_all all_alarms x in
-        let abandoned = later_abandoning p m (given_up (is_data_due m) m.sender m.moment) (given_up_goes (is_data_due m) m.sender m.moment) in
+        let abandoned = later_abandoning p m (given_up (is_data_due m) m.sender m.moment) (given_up_goes p.receiver (is_data_due m) m.sender m.moment) in
         later_on p e m (waited_in (is_over_at rang.moment rang.delayed) rang) (later_same p e m refl refl)
         (later_on p m x (waited_in (is_over_at rang.moment rang.delayed) rang) abandoned
         (later_on p x rang (waited_in (is_over_at rang.moment rang.delayed) rang) (later_rung_all p all_alarms x) (later_waited p (is_over_at rang.moment rang.delayed) rang)))
@@ -473,7 +620,7 @@ pub sent_later : (p e : EndView) (c : Call) → LaterEnd p e (send_leaves (send_
 sent_later p e c = go (hears is_established e.phase)
   where
     by : (o : Option Refusal) → LaterEnd p e (send_leaves (answer_for e o) e c)
-    by None = later_sender p e _ (goes_since e.sender _ (since_queued e.sender c.lane c.payload c.bytes c.until c.limit) refl) refl
+    by None = later_sender p e _ (goes_since p.receiver e.sender _ (since_queued e.sender c.lane c.payload c.bytes c.until c.limit) refl) refl
     by (Some x) = later_itself p e
 
     go : (b : Bool) → LaterEnd p e (send_leaves (if b then answer_for e (refusal e.sender c.lane.stream c.bytes) else NotOpen) e c)
@@ -483,8 +630,8 @@ sent_later p e c = go (hears is_established e.phase)
 pub abandoned_later : (p e : EndView) (n : ℕ) → LaterEnd p e (abandoned_at e n)
 abandoned_later p e n = go (is_open e.phase)
   where
-    goes : Goes e.sender (abandon_after e.sender n)
-    goes = goes_since e.sender (abandon_after e.sender n) (since_abandoned e.sender n) (abandon_resets e.sender n)
+    goes : Goes p.receiver e.sender (abandon_after e.sender n)
+    goes = goes_since p.receiver e.sender (abandon_after e.sender n) (since_abandoned e.sender n) (abandon_resets e.sender n)
 
     go : (b : Bool) → LaterEnd p e (if b then after_abandoning e (abandon_after e.sender n) else record e { sender = abandon_after e.sender n })
     go true = later_abandoning p e (abandon_after e.sender n) goes
@@ -492,7 +639,7 @@ abandoned_later p e n = go (is_open e.phase)
 
 pub told_later : (p e : EndView) (o : Option ℕ) → LaterEnd p e (told_leaves o e)
 told_later p e None = later_itself p e
-told_later p e (Some s) = later_receiver p e _ refl (onward_calm p.sender e.receiver (told_of e.receiver s) (λ j h. h) refl (λ k. refl) (λ k n is. told k n (k == s) is))
+told_later p e (Some s) = later_receiver p e _ refl (onward_calm p.sender e.receiver (told_of e.receiver s) (λ j h. h) refl (λ k. refl) (λ k n is. told k n (k == s) is) (λ k h. noted_received p.sender e.receiver (told_of e.receiver s) k refl refl refl refl refl h))
   where
     told : (k n : ℕ) (b : Bool) → (if b then None else e.receiver.resets.told k) ≡ Some n → e.receiver.resets.told k ≡ Some n
     told k n true here = absurd (cc)
@@ -520,5 +667,5 @@ aborted_later p e TooLong = later_itself p e
 
 pub taken_later : (p e : EndView) (u v : Asked) (out back : List Dated) (s : ℕ) (h : Option Handed) (t : EndView) → IsMet e p u v out back → UserTakes e s h t → LaterEnd p e t
 taken_later p e u v out back s h t m takes =
-    later_views p e t e.sender takes.receiver (ap (λ (x : EndView). x.sender) takes.leaves) (ap (λ (x : EndView). x.receiver) takes.leaves) (goes_itself e.sender)
+    later_views p e t e.sender takes.receiver (ap (λ (x : EndView). x.sender) takes.leaves) (ap (λ (x : EndView). x.receiver) takes.leaves) (goes_itself p.receiver e.sender)
     (take_onward (format_of p) p.terms.outbound p.sender v e.receiver back out m.coming s h takes.receiver takes.takes)

@@ -6,7 +6,7 @@ use Rattle.sctp_model.specs.wire.Chunk.{ChunkMeaning}
 use Rattle.sctp_model.specs.wire.Packet.{Packet}
 use Rattle.sctp_model.specs.messages.Format.{Format, Lane, Ordered}
 use Rattle.sctp_model.specs.messages.Plan.{Entry, Part, Plan, entry_at}
-use Rattle.sctp_model.specs.sender.Outgoing.{is_sending}
+use Rattle.sctp_model.specs.sender.Outgoing.{is_sending, is_resetting}
 use Rattle.sctp_model.specs.sender.SenderView.{SenderView}
 use Rattle.sctp_model.specs.receiver.ReceiverView.{Handed, ReceiverView, handed, Reaches}
 use Rattle.sctp_model.specs.world.Calls.{Asked}
@@ -36,6 +36,7 @@ use Rattle.sctp_safety.proofs.runs.Direction.{Direction, way_of}
 use Rattle.sctp_safety.proofs.runs.MetSteps.{comes, no_call}
 use Rattle.sctp_safety.proofs.runs.MetWorld.{IsMetWorld, MetAt, at_side, now_at}
 use Rattle.sctp_safety.proofs.runs.parted.Since.{Since, since_same, since_itself, since_on}
+use Rattle.sctp_safety.proofs.runs.ResetFacts.{IsNoted, noted_sent}
 use Rattle.sctp_safety.proofs.runs.parted.Onward.{Onward, IsHandedLater, IsPerformed, onward_itself}
 use Rattle.sctp_safety.proofs.runs.parted.LaterEnds.{LaterEnd, later_same, later_itself, later_on, arrives_later, builds_later, ticked_later, ticked_receiver, sent_later, abandoned_later, told_later, shut_later, aborted_later, taken_later}
 
@@ -98,6 +99,8 @@ pub record GoesOnBy (x : Side) (e : Event) (o : Option Outcome) (a : SenderView)
   pub ongoing : Ongoing a r b t
   pub shut : (s : ℕ) → is_sending (b.resets.sending s) ≡ false → (is_sending (a.resets.sending s) ≡ false) ⊎ ((e ≡ Reset x s) × (o ≡ Some Done))
   pub told : (s n : ℕ) → t.resets.told s ≡ Some n → (r.resets.told s ≡ Some n) ⊎ ((b ≡ a) × IsPerformed a r t s n)
+  pub resets : (s : ℕ) → is_resetting (b.resets.sending s) ≡ true → (is_resetting (a.resets.sending s) ≡ true) ⊎ ((e ≡ Reset x s) × (o ≡ Some Done))
+  pub noted : (s : ℕ) → IsNoted a r s → is_resetting (b.resets.sending s) ≡ true → IsNoted b t s
 
 -- ---- worlds
 
@@ -115,30 +118,33 @@ module _ (s : Setup) (drawn : List ℕ) (d : Dates) (w : World) (opening : IsOpe
     same : (x : Side) → v.a ≡ w.a → v.b ≡ w.b → StepGoes x w e o v
     same A a b = subst (λ (y : EndView). GoesOnBy A e o w.a.sender w.b.receiver y.sender v.b.receiver) (sym a)
         (subst (λ (y : EndView). GoesOnBy A e o w.a.sender w.b.receiver w.a.sender y.receiver) (sym b)
-        (record { ongoing = by_receiver w.a.sender w.b.receiver w.b.receiver (onward_itself w.a.sender w.b.receiver); shut = λ k h. inl h; told = λ k n is. inl is }))
+        (record { ongoing = by_receiver w.a.sender w.b.receiver w.b.receiver (onward_itself w.a.sender w.b.receiver); shut = λ k h. inl h; told = λ k n is. inl is; resets = λ k h. inl h; noted = λ k h on. h }))
     same B a b = subst (λ (y : EndView). GoesOnBy B e o w.b.sender w.a.receiver y.sender v.a.receiver) (sym b)
         (subst (λ (y : EndView). GoesOnBy B e o w.b.sender w.a.receiver w.b.sender y.receiver) (sym a)
-        (record { ongoing = by_receiver w.b.sender w.a.receiver w.a.receiver (onward_itself w.b.sender w.a.receiver); shut = λ k h. inl h; told = λ k n is. inl is }))
+        (record { ongoing = by_receiver w.b.sender w.a.receiver w.a.receiver (onward_itself w.b.sender w.a.receiver); shut = λ k h. inl h; told = λ k n is. inl is; resets = λ k h. inl h; noted = λ k h on. h }))
 
     -- the sender's end goes on
     sending : (x : Side) (t : EndView) → end_of v x ≡ t → end_of v (other x) ≡ end_of w (other x) → Since (end_of w x).sender t.sender →
-        ((k : ℕ) → is_sending (t.sender.resets.sending k) ≡ false → (is_sending ((end_of w x).sender.resets.sending k) ≡ false) ⊎ ((e ≡ Reset x k) × (o ≡ Some Done))) → StepGoes x w e o v
-    sending x t here there since shut =
+        ((k : ℕ) → is_sending (t.sender.resets.sending k) ≡ false → (is_sending ((end_of w x).sender.resets.sending k) ≡ false) ⊎ ((e ≡ Reset x k) × (o ≡ Some Done))) →
+        ((k : ℕ) → is_resetting (t.sender.resets.sending k) ≡ true → (is_resetting ((end_of w x).sender.resets.sending k) ≡ true) ⊎ ((e ≡ Reset x k) × (o ≡ Some Done))) →
+        ((k : ℕ) → IsNoted (end_of w x).sender (end_of w (other x)).receiver k → is_resetting (t.sender.resets.sending k) ≡ true → IsNoted t.sender (end_of w (other x)).receiver k) →
+        StepGoes x w e o v
+    sending x t here there since shut resets noted =
         subst (λ (y : EndView). GoesOnBy x e o (end_of w x).sender (end_of w (other x)).receiver y.sender (end_of v (other x)).receiver) (sym here)
         (subst (λ (y : EndView). GoesOnBy x e o (end_of w x).sender (end_of w (other x)).receiver t.sender y.receiver) (sym there)
-        (record { ongoing = grows x t.sender since; shut = shut; told = λ k n is. inl is }))
+        (record { ongoing = grows x t.sender since; shut = shut; told = λ k n is. inl is; resets = resets; noted = noted }))
 
     -- the receiver's end does
     receiving : (x : Side) (t : EndView) → end_of v x ≡ end_of w x → end_of v (other x) ≡ t → LaterEnd (end_of w x) (end_of w (other x)) t → StepGoes x w e o v
     receiving x t here there l =
         subst (λ (y : EndView). GoesOnBy x e o (end_of w x).sender (end_of w (other x)).receiver y.sender (end_of v (other x)).receiver) (sym here)
         (subst (λ (y : EndView). GoesOnBy x e o (end_of w x).sender (end_of w (other x)).receiver (end_of w x).sender y.receiver) (sym there)
-        (record { ongoing = by_receiver (end_of w x).sender (end_of w (other x)).receiver t.receiver l.receiver; shut = λ k h. inl h; told = λ k n is. elim (l.receiver.told k n is) [ inl before ↦ inl before | inr performed ↦ inr (refl, performed) ] }))
+        (record { ongoing = by_receiver (end_of w x).sender (end_of w (other x)).receiver t.receiver l.receiver; shut = λ k h. inl h; told = λ k n is. elim (l.receiver.told k n is) [ inl before ↦ inl before | inr performed ↦ inr (refl, performed) ]; resets = λ k h. inl h; noted = λ k h on. l.receiver.noted k h }))
 
     at_one : (z : Side) (t : EndView) (given : Option Packet) → IsAt w v z t given → LaterEnd (end_of w (other z)) (end_of w z) t → (x : Side) → StepGoes x w e o v
-    at_one A t given is l A = sending A t is.here is.there l.sender.since (λ k h. inl (l.sender.shut k h))
+    at_one A t given is l A = sending A t is.here is.there l.sender.since (λ k h. inl (l.sender.shut k h)) (λ k h. inl (l.sender.resets k h)) l.sender.noted
     at_one A t given is l B = receiving B t is.there is.here l
-    at_one B t given is l B = sending B t is.here is.there l.sender.since (λ k h. inl (l.sender.shut k h))
+    at_one B t given is l B = sending B t is.here is.there l.sender.since (λ k h. inl (l.sender.shut k h)) (λ k h. inl (l.sender.resets k h)) l.sender.noted
     at_one B t given is l A = receiving A t is.there is.here l
 
     -- time passes at both
@@ -155,6 +161,8 @@ module _ (s : Setup) (drawn : List ℕ) (d : Dates) (w : World) (opening : IsOpe
               (by_receiver (ticked p now).sender q.receiver (ticked q then).receiver across.receiver);
           shut = λ k h. inl (own.sender.shut k h);
           told = λ k n is. inl (subst (λ (c : ReceiverView). c.resets.told k ≡ Some n) (ticked_receiver q then) is);
+          resets = λ k h. inl (own.sender.resets k h);
+          noted = λ k h on. across.receiver.noted k (own.sender.noted k h on);
         }))
 
     arrived : (z : Side) (q : Packet) (t : EndView) (k : Verdict) → AreKept d w e v → Brought s drawn w e z q → Arrives (end_now w z) w.draw q t k → LaterEnd (end_of w (other z)) (end_of w z) t
@@ -183,13 +191,26 @@ module _ (s : Setup) (drawn : List ℕ) (d : Dates) (w : World) (opening : IsOpe
     asked_shut NotAgreed i h = inl h
     asked_shut NoStream i h = inl h
 
+    asked_resets : (a : ResetCall) (i : ℕ) → is_resetting ((reset_leaves a (end_of w z) k).sender.resets.sending i) ≡ true →
+        (is_resetting ((end_of w z).sender.resets.sending i) ≡ true) ⊎ ((Reset z k ≡ Reset z i) × (Some (reset_told a) ≡ Some Done))
+    asked_resets Begun i h = at_cases (λ x. is_resetting x ≡ true → (is_resetting ((end_of w z).sender.resets.sending i) ≡ true) ⊎ ((Reset z k ≡ Reset z i) × (Some (reset_told Begun) ≡ Some Done)))
+        (end_of w z).sender.resets.sending k Resets i (λ e on. inr (ap (Reset z) (sym e), refl)) (λ ne on. inl on) h
+    asked_resets NotAgreed i h = inl h
+    asked_resets NoStream i h = inl h
+
+    asked_noted : (a : ResetCall) (r : ReceiverView) (i : ℕ) → IsNoted (end_of w z).sender r i → IsNoted (reset_leaves a (end_of w z) k).sender r i
+    asked_noted Begun r i h = noted_sent (end_of w z).sender _ r i refl refl h
+    asked_noted NotAgreed r i h = h
+    asked_noted NoStream r i h = h
+
     asked_receiver : (a : ResetCall) → (reset_leaves a (end_of w z) k).receiver ≡ (end_of w z).receiver
     asked_receiver Begun = refl
     asked_receiver NotAgreed = refl
     asked_receiver NoStream = refl
 
     asks : (v : World) → IsAt w v z (reset_leaves (reset_call (end_of w z) k) (end_of w z) k) None → (x : Side) → StepGoes x w (Reset z k) (Some (reset_told (reset_call (end_of w z) k))) v
-    asks v is x = go z x is (asked_since (reset_call (end_of w z) k)) (asked_shut (reset_call (end_of w z) k)) (asked_receiver (reset_call (end_of w z) k))
+    asks v is x = go z x is (asked_since (reset_call (end_of w z) k)) (asked_shut (reset_call (end_of w z) k)) (asked_resets (reset_call (end_of w z) k))
+        (asked_noted (reset_call (end_of w z) k)) (asked_receiver (reset_call (end_of w z) k))
       where
         t : EndView
         t = reset_leaves (reset_call (end_of w z) k) (end_of w z) k
@@ -201,15 +222,17 @@ module _ (s : Setup) (drawn : List ℕ) (d : Dates) (w : World) (opening : IsOpe
         across y x here there receiver =
             subst (λ (c : EndView). GoesOnBy x (Reset z k) o (end_of w x).sender (end_of w (other x)).receiver c.sender (end_of v (other x)).receiver) (sym here)
             (subst (λ (c : ReceiverView). GoesOnBy x (Reset z k) o (end_of w x).sender (end_of w (other x)).receiver (end_of w x).sender c) (sym (ap (λ (c : EndView). c.receiver) there ∙ receiver))
-            (record { ongoing = by_receiver (end_of w x).sender (end_of w (other x)).receiver (end_of w (other x)).receiver (onward_itself (end_of w x).sender (end_of w (other x)).receiver); shut = λ i h. inl h; told = λ i n same. inl same }))
+            (record { ongoing = by_receiver (end_of w x).sender (end_of w (other x)).receiver (end_of w (other x)).receiver (onward_itself (end_of w x).sender (end_of w (other x)).receiver); shut = λ i h. inl h; told = λ i n same. inl same; resets = λ i h. inl h; noted = λ i h on. h }))
 
         go : (y x : Side) → IsAt w v y t None → Since (end_of w y).sender t.sender →
             ((i : ℕ) → is_sending (t.sender.resets.sending i) ≡ false → (is_sending ((end_of w y).sender.resets.sending i) ≡ false) ⊎ ((Reset z k ≡ Reset y i) × (o ≡ Some Done))) →
+            ((i : ℕ) → is_resetting (t.sender.resets.sending i) ≡ true → (is_resetting ((end_of w y).sender.resets.sending i) ≡ true) ⊎ ((Reset z k ≡ Reset y i) × (o ≡ Some Done))) →
+            ((r : ReceiverView) (i : ℕ) → IsNoted (end_of w y).sender r i → IsNoted t.sender r i) →
             t.receiver ≡ (end_of w y).receiver → StepGoes x w (Reset z k) o v
-        go A A at since shut receiver = sending (Reset z k) o v A t at.here at.there since shut
-        go B B at since shut receiver = sending (Reset z k) o v B t at.here at.there since shut
-        go A B at since shut receiver = across A B at.there at.here receiver
-        go B A at since shut receiver = across B A at.there at.here receiver
+        go A A at since shut resets noted receiver = sending (Reset z k) o v A t at.here at.there since shut resets (λ i h on. noted (end_of w B).receiver i h)
+        go B B at since shut resets noted receiver = sending (Reset z k) o v B t at.here at.there since shut resets (λ i h on. noted (end_of w A).receiver i h)
+        go A B at since shut resets noted receiver = across A B at.there at.here receiver
+        go B A at since shut resets noted receiver = across B A at.there at.here receiver
 
   pub step_goes : (e : Event) (o : Option Outcome) (v : World) → AreKept d w e v → IsFine s drawn e → Step w e o v → (x : Side) → StepGoes x w e o v
   step_goes e o v dates fine (OpensBoth y z like may dx dy) x = absurd (let q = m.closed in cc)

@@ -1,6 +1,6 @@
 -- What a call does to a receiver, beside the sender across: nothing is forgotten, and each message that is delivered was waited for, or a fragment of it
 -- wasn't reached before.
-use Rattle.std.proofs.Common.{◌≡◌, ℕ, zero, suc, ◌<◌, ◌≤◌, ◌⊎◌, Bool, true, false, List, [], ◌∷◌, ◌++◌, length, length-append, Option, Some, None, inl, inr, refl, sym, subst, ap, ◌∙◌, arith, append-nil, if◌then◌else◌}
+use Rattle.std.proofs.Common.{◌≡◌, ℕ, zero, suc, ◌≤◌, ◌⊎◌, Bool, true, false, List, [], ◌++◌, length, length-append, Option, Some, None, inl, inr, refl, sym, subst, ap, ◌∙◌, arith, append-nil, if◌then◌else◌, not}
 use Rattle.std.proofs.lemmas.List.{append_assoc}
 use Rattle.sctp_model.specs.numbers.Lists.{Has}
 use Rattle.sctp_model.specs.wire.Typed.{Typed}
@@ -9,7 +9,6 @@ use Rattle.sctp_model.specs.wire.Reconfig.{ResetMeaning, ResetResult, Performed,
 use Rattle.sctp_model.specs.messages.Format.{Format, Kind, Ordered, Unordered, Lane}
 use Rattle.sctp_model.specs.messages.Plan.{Part, Plan, entry_at}
 use Rattle.sctp_model.specs.messages.Pieces.{Piece}
-use Rattle.sctp_model.specs.sender.Outgoing.{Request, lists}
 use Rattle.sctp_model.specs.sender.SenderView.{SenderView}
 use Rattle.sctp_model.specs.receiver.Incoming.{Incoming}
 use Rattle.sctp_model.specs.receiver.ReceiverView.{Handed, ReceiverView, handed, Reaches, IsCumulative}
@@ -17,7 +16,7 @@ use Rattle.sctp_model.specs.receiver.Receiving.{Gives, GivesOrdered, GivesAll}
 use Rattle.sctp_model.specs.receiver.Reading.{piece_at}
 use Rattle.sctp_model.specs.receiver.PieceTaken.{PieceAnswer, Duplicate, Ahead, NoSuchStream, Passed, NoRoom, Kept, Leaves, PieceTaken}
 use Rattle.sctp_model.specs.receiver.ForwardTaken.{ForwardAnswer, OutOfDate, Bad, Moved, forwarded, ForwardLeaves, ForwardTaken}
-use Rattle.sctp_model.specs.receiver.ResetTaken.{names, reset_answer, is_in_turn, with_answer, renumbered_by, request_taken, reset_taken, with_answers}
+use Rattle.sctp_model.specs.receiver.ResetTaken.{names, reset_answer, is_in_turn, with_answer, renumbered_by, reset_taken, with_answers, names_anew, was_performed}
 use Rattle.sctp_model.specs.receiver.SackMade.{TakeLeaves}
 use Rattle.sctp_model.specs.world.Calls.{Asked}
 use Rattle.sctp_model.specs.world.Safe.{WasHanded}
@@ -35,9 +34,11 @@ use Rattle.sctp_safety.proofs.runs.Nearness.{piece_index_near, point_near}
 use Rattle.sctp_safety.proofs.runs.Direction.{way_of, IsPieceIn, IsForwardIn, IsSaid, Direction, joined_in, counted_in}
 use Rattle.sctp_safety.proofs.runs.ResetFacts.{IsAskedBy}
 use Rattle.sctp_safety.proofs.runs.ReachesLast.{reaches_last}
-use Rattle.sctp_safety.proofs.runs.Renumbering.{IsTurn, turn, named}
+use Rattle.sctp_safety.proofs.runs.ResetFacts.{IsNoted, noted_received}
+use Rattle.sctp_safety.proofs.runs.Renumbering.{turn, named, not_noted, noted_performed, stays_noted}
 use Rattle.sctp_safety.proofs.runs.parted.OnWay.{OnWay, IsHandedAnew, on_leads}
 use Rattle.sctp_safety.proofs.runs.parted.Recorded.{piece_records, forward_records}
+use Rattle.std.proofs.lemmas.Bool.{and_parts}
 
 -- the message was waited for, or lay ahead; or one of its fragments wasn't reached
 abbrev pub IsHandedLater : Plan → ReceiverView → Lane → ℕ → Type 0
@@ -46,6 +47,8 @@ IsHandedLater p r l k = ((l.kind ≡ Ordered) × (r.next l.stream ≤ k)) ⊎ ((
 -- a request for the stream that waits across was performed here, when this many messages had been delivered
 pub record IsPerformed (a : SenderView) (r t : ReceiverView) (s n : ℕ) : Type 0 where
   pub asks : Asks a s
+  pub anew : IsNoted a r s → ⊥
+  pub noted : IsNoted a t s
   pub after : length (handed r s) ≤ n
   pub before : n ≤ length (handed t s)
 
@@ -55,20 +58,22 @@ pub record Onward (a : SenderView) (r t : ReceiverView) : Type 0 where
   pub more : (s : ℕ) → (hs : List Handed) × (handed t s ≡ handed r s ++ hs)
   pub anew : (l : Lane) (k : ℕ) → WasHanded a.plan t l k → WasHanded a.plan r l k ⊎ IsHandedLater a.plan r l k
   pub told : (s n : ℕ) → t.resets.told s ≡ Some n → (r.resets.told s ≡ Some n) ⊎ IsPerformed a r t s n
+  pub noted : (s : ℕ) → IsNoted a r s → IsNoted a t s
 
 -- nothing is delivered, and no request performed
 pub onward_calm : (a : SenderView) (r t : ReceiverView) → ((j : ℕ) → Reaches r j → Reaches t j) → t.next ≡ r.next → ((s : ℕ) → handed t s ≡ handed r s) →
-    ((s n : ℕ) → t.resets.told s ≡ Some n → r.resets.told s ≡ Some n) → Onward a r t
-onward_calm a r t reached next same told = record {
+    ((s n : ℕ) → t.resets.told s ≡ Some n → r.resets.told s ≡ Some n) → ((s : ℕ) → IsNoted a r s → IsNoted a t s) → Onward a r t
+onward_calm a r t reached next same told noted = record {
   reached = reached;
   next = λ s. (let e = ap (λ (g : ℕ → ℕ). g s) next in omega (arith, e));
   more = λ s. ([], same s ∙ sym (append-nil (handed r s)));
   anew = λ l k (h, has, lane, first). inl (h, subst (λ (hs : List Handed). Has hs h) (same l.stream) has, lane, first);
   told = λ s n is. inl (told s n is);
+  noted = noted;
 }
 
 pub onward_itself : (a : SenderView) (r : ReceiverView) → Onward a r r
-onward_itself a r = onward_calm a r r (λ j h. h) refl (λ s. refl) (λ s n is. is)
+onward_itself a r = onward_calm a r r (λ j h. h) refl (λ s. refl) (λ s n is. is) (λ s k. k)
 
 pub onward_same : (a : SenderView) (r t : ReceiverView) → t ≡ r → Onward a r t
 onward_same a r t is = subst (Onward a r) (sym is) (onward_itself a r)
@@ -83,6 +88,7 @@ onward_on a r t u o b = record {
   more = λ s. ((o.more s).0 ++ (b.more s).0, (b.more s).1 ∙ ap (λ (hs : List Handed). hs ++ (b.more s).0) (o.more s).1 ∙ append_assoc (handed r s) (o.more s).0 (b.more s).0);
   anew = λ l k h. by_last l k (b.anew l k h);
   told = λ s n is. told s n (b.told s n is);
+  noted = λ s k. b.noted s (o.noted s k);
 }
   where
     later : (l : Lane) (k : ℕ) → IsHandedLater a.plan t l k → IsHandedLater a.plan r l k
@@ -95,11 +101,11 @@ onward_on a r t u o b = record {
 
     first : (s n : ℕ) → (r.resets.told s ≡ Some n) ⊎ IsPerformed a r t s n → (r.resets.told s ≡ Some n) ⊎ IsPerformed a r u s n
     first s n (inl before) = inl before
-    first s n (inr p) = inr (record { asks = p.asks; after = p.after; before = (let x = p.before in let y = longer t u s (b.more s) in omega (arith, x, y)) })
+    first s n (inr p) = inr (record { asks = p.asks; anew = p.anew; noted = b.noted s p.noted; after = p.after; before = (let x = p.before in let y = longer t u s (b.more s) in omega (arith, x, y)) })
 
     told : (s n : ℕ) → (t.resets.told s ≡ Some n) ⊎ IsPerformed a t u s n → (r.resets.told s ≡ Some n) ⊎ IsPerformed a r u s n
     told s n (inl before) = first s n (o.told s n before)
-    told s n (inr p) = inr (record { asks = p.asks; before = p.before; after = (let x = p.after in let y = longer r t s (o.more s) in omega (arith, x, y)) })
+    told s n (inr p) = inr (record { asks = p.asks; anew = λ k. p.anew (o.noted s k); noted = p.noted; before = p.before; after = (let x = p.after in let y = longer r t s (o.more s) in omega (arith, x, y)) })
 
 -- ---- what calls leave of resets
 
@@ -148,6 +154,7 @@ module _ (f : Format) (n : ℕ) (a : SenderView) (u : Asked) (r : ReceiverView) 
     more = o.more;
     anew = λ l k h. elim (o.anew l k h) [ inl before ↦ inl before | inr new ↦ inr (later l k new) ];
     told = λ s k is. inl (subst (λ (x : Incoming). x.told s ≡ Some k) resets is);
+    noted = λ s k. noted_received a r t s m.initial m.streams (ap (λ (x : Incoming). x.waited) resets) (ap (λ (x : Incoming). x.result) resets) (ap (λ (x : Incoming). x.taken) resets) k;
   }
     where
       o : OnWay here (with_receiver here t)
@@ -188,13 +195,13 @@ module _ (f : Format) (n : ℕ) (a : SenderView) (u : Asked) (r : ReceiverView) 
 
   module _ (c : ℕ) (cumulative : IsCumulative r c) (m : ResetMeaning) (ask : IsAskedBy a.initial a m) where
     -- what it leaves to be reported
-    told_then : (b : Bool) (o : ResetResult) (s k : ℕ) → (if b then with_answer (renumbered_by r (names r m.streams) o) m.number o else r).resets.told s ≡ Some k
-        → (r.resets.told s ≡ Some k) ⊎ ((b ≡ true) × ((o ≡ Performed) × ((names r m.streams s ≡ true) × (k ≡ length (handed r s)))))
+    told_then : (b : Bool) (o : ResetResult) (s k : ℕ) → (if b then with_answer (renumbered_by r (names r m.streams) (names_anew r m) o) m o else r).resets.told s ≡ Some k
+        → (r.resets.told s ≡ Some k) ⊎ ((b ≡ true) × ((o ≡ Performed) × ((names_anew r m s ≡ true) × (k ≡ length (handed r s)))))
     told_then false o s k is = inl is
-    told_then true Performed s k is = by_name (names r m.streams s) refl is
+    told_then true Performed s k is = by_name (names_anew r m s) refl is
       where
-        by_name : (x : Bool) → names r m.streams s ≡ x → (if x then Some (length (handed r s)) else r.resets.told s) ≡ Some k
-            → (r.resets.told s ≡ Some k) ⊎ ((true ≡ true) × ((Performed ≡ Performed) × ((names r m.streams s ≡ true) × (k ≡ length (handed r s)))))
+        by_name : (x : Bool) → names_anew r m s ≡ x → (if x then Some (length (handed r s)) else r.resets.told s) ≡ Some k
+            → (r.resets.told s ≡ Some k) ⊎ ((true ≡ true) × ((Performed ≡ Performed) × ((names_anew r m s ≡ true) × (k ≡ length (handed r s)))))
         by_name true on here = inr (refl, (refl, (on, sym (cc))))
         by_name false off here = inl here
     told_then true Denied s k is = inl is
@@ -209,18 +216,22 @@ module _ (f : Format) (n : ℕ) (a : SenderView) (u : Asked) (r : ReceiverView) 
       more = λ s. ([], ap (λ (x : ReceiverView). handed x s) is.1 ∙ sym (append-nil (handed r s)));
       anew = λ l k h. inl (subst (λ (x : ReceiverView). WasHanded a.plan x l k) is.1 h);
       told = λ s k there. by s k (told_then (is_in_turn r m.number) (reset_answer r c m) s k there);
+      noted = stays_noted f n a u r out back d c cumulative m ask xs;
     }
       where
         is : IsResetIn r (with_answers (reset_taken r c m) xs)
-        is = waiting_in r (reset_taken r c m) xs (taken_in r m.number (names r m.streams) (reset_answer r c m))
+        is = waiting_in r (reset_taken r c m) xs (taken_in r m (names r m.streams) (names_anew r m) (reset_answer r c m))
 
-        by : (s k : ℕ) → (r.resets.told s ≡ Some k) ⊎ ((is_in_turn r m.number ≡ true) × ((reset_answer r c m ≡ Performed) × ((names r m.streams s ≡ true) × (k ≡ length (handed r s)))))
+        by : (s k : ℕ) → (r.resets.told s ≡ Some k) ⊎ ((is_in_turn r m.number ≡ true) × ((reset_answer r c m ≡ Performed) × ((names_anew r m s ≡ true) × (k ≡ length (handed r s)))))
             → (r.resets.told s ≡ Some k) ⊎ IsPerformed a r (with_answers (reset_taken r c m) xs) s k
         by s k (inl before) = inl before
-        by s k (inr (on, (done, (names_it, count)))) =
+        by s k (inr (on, (done, (anew, count)))) =
             let t = turn f n a u r out back d c cumulative m ask on in
+            let listed = sym (named f n a u r out back d c cumulative m ask on done s) ∙ (and_parts (names r m.streams s) (not (was_performed r m)) anew).0 in
             inr (record {
-              asks = record { request = t.request; waits = t.waits; named = sym (named f n a u r out back d c cumulative m ask on done s) ∙ names_it };
+              asks = record { request = t.request; waits = t.waits; named = listed };
+              anew = not_noted f n a u r out back d c cumulative m ask on s anew;
+              noted = noted_performed f n a u r out back d c cumulative m ask on done xs s listed;
               after = omega (arith, count);
               before = (let e = ap (λ (x : ReceiverView). length (handed x s)) is.1 in omega (arith, e, count));
             })

@@ -3,7 +3,7 @@ use Rattle.std.proofs.Common.{◌≡◌, ℕ, zero, suc, ◌<◌, ◌≤◌, ◌
 use Rattle.sctp_model.specs.numbers.Lists.{Has, AreInOrder}
 use Rattle.sctp_model.specs.messages.Format.{Format, Ordered, Lane, ordered_lane}
 use Rattle.sctp_model.specs.messages.Plan.{Message, bytes_of, Entry, Part, End, Plan, entry_at, message_at, IsClosed, IsOf}
-use Rattle.sctp_model.specs.sender.Outgoing.{Request, lists, is_sending}
+use Rattle.sctp_model.specs.sender.Outgoing.{Request, lists, Sending, Sends, Resets, Refuses, is_sending, is_resetting}
 use Rattle.sctp_model.specs.sender.SenderView.{Queued, SenderView}
 use Rattle.sctp_model.specs.sender.Entries.{entry_lane}
 use Rattle.sctp_model.specs.receiver.ReceiverView.{Handed, ReceiverView, handed, Reaches}
@@ -31,7 +31,7 @@ use Rattle.sctp_safety.proofs.runs.Dating.{dates_of, AllKept, kept_in_time}
 use Rattle.sctp_safety.proofs.runs.Direction.{Direction, way_of, entry_there}
 use Rattle.sctp_safety.proofs.runs.MetSteps.{met_step}
 use Rattle.sctp_safety.proofs.runs.MetWorld.{IsMetWorld, MetAt, at_side}
-use Rattle.sctp_safety.proofs.runs.ResetFacts.{IsOpen}
+use Rattle.sctp_safety.proofs.runs.ResetFacts.{IsOpen, IsNoted}
 use Rattle.sctp_safety.proofs.runs.Safety.{IsKept, IsSteady, set_up, steady_step, kept_start}
 use Rattle.sctp_safety.proofs.runs.ApartWorld.{IsApartWorld}
 use Rattle.sctp_safety.proofs.runs.parted.Beginning.{IsUnreset, step_unreset}
@@ -198,6 +198,12 @@ pub record StepResets (d : Dates) (x : Side) (n : ℕ) (w : World) (e : Event) (
   pub told : (c : ℕ) → (end_of v (other x)).receiver.resets.told n ≡ Some c →
       ((end_of w (other x)).receiver.resets.told n ≡ Some c) ⊎ (IsMetWorld d w × (Asks (end_of w x).sender n × (c ≡ length (handed (end_of w (other x)).receiver n))))
   pub grown : length (handed (end_of w (other x)).receiver n) ≤ length (handed (end_of v (other x)).receiver n)
+  -- a stream whose reset is asked for was so before, or that is asked for now
+  pub resets : is_resetting ((end_of v x).sender.resets.sending n) ≡ true → (is_resetting ((end_of w x).sender.resets.sending n) ≡ true) ⊎ ((e ≡ Reset x n) × (o ≡ Some Done))
+  -- what is noted stays so; and what is to be reported anew is noted now, wasn't before, and was asked for
+  pub noted : IsNoted (end_of w x).sender (end_of w (other x)).receiver n → is_resetting ((end_of v x).sender.resets.sending n) ≡ true → IsNoted (end_of v x).sender (end_of v (other x)).receiver n
+  pub anew : (c : ℕ) → (end_of v (other x)).receiver.resets.told n ≡ Some c → ((end_of w (other x)).receiver.resets.told n ≡ Some c) ⊎
+      (IsNoted (end_of v x).sender (end_of v (other x)).receiver n × (IsNoted (end_of w x).sender (end_of w (other x)).receiver n → ⊥) × (is_resetting ((end_of w x).sender.resets.sending n) ≡ true))
 
 module _ (s : Setup) (drawn : List ℕ) (within : (x : Side) → IsConfiguration (configuration_of s x)) (d : Dates) where
   -- a request that waits has shut its streams
@@ -236,10 +242,23 @@ module _ (s : Setup) (drawn : List ℕ) (within : (x : Side) → IsConfiguration
         shut = goes.shut n;
         told = λ c is. told c (goes.told n c is);
         grown = let k = length-append (handed (end_of w (other x)).receiver n) (goes.ongoing.more n).0 in let same = ap length (goes.ongoing.more n).1 in omega (arith, k, same);
+        resets = goes.resets n;
+        noted = goes.noted n;
+        anew = λ c is. anew c (goes.told n c is);
       }
         where
           goes : StepGoes x w e o v
           goes = step_goes s drawn d w opening met e o v dates fine step x
+
+          anew : (c : ℕ) → ((end_of w (other x)).receiver.resets.told n ≡ Some c) ⊎ (((end_of v x).sender ≡ (end_of w x).sender) × IsPerformed (end_of w x).sender (end_of w (other x)).receiver (end_of v (other x)).receiver n c) →
+              ((end_of w (other x)).receiver.resets.told n ≡ Some c) ⊎
+              (IsNoted (end_of v x).sender (end_of v (other x)).receiver n × (IsNoted (end_of w x).sender (end_of w (other x)).receiver n → ⊥) × (is_resetting ((end_of w x).sender.resets.sending n) ≡ true))
+          anew c (inl before) = inl before
+          anew c (inr (same, performed)) = inr (
+            subst (λ (a : SenderView). IsNoted a (end_of v (other x)).receiver n) (sym same) performed.noted,
+            performed.anew,
+            ((at_side d w x met.met).met.going.step.waiting performed.asks.request performed.asks.waits).resets n performed.asks.named,
+          )
 
           later : IsMetWorld d v
           later = met_step s drawn d w opening met e o v dates fine step
@@ -273,8 +292,16 @@ module _ (s : Setup) (drawn : List ℕ) (within : (x : Side) → IsConfiguration
         shut = λ off. absurd (let on = (new x).sends in cc);
         told = λ c is. absurd (let none = (new (other x)).untold in cc);
         grown = let none = ap (λ (r : ReceiverView). length (handed r n)) (k.ends (other x)).blank.receiver in omega (arith, none);
+        resets = λ on. absurd (not_both ((end_of v x).sender.resets.sending n) (new x).sends on);
+        noted = λ h on. absurd (not_both ((end_of v x).sender.resets.sending n) (new x).sends on);
+        anew = λ c is. absurd (let none = (new (other x)).untold in cc);
       }
         where
+          not_both : (z : Sending) → is_sending z ≡ true → is_resetting z ≡ true → ⊥
+          not_both Sends sends on = cc
+          not_both Resets sends on = cc
+          not_both Refuses sends on = cc
+
           new : (y : Side) → IsUnreset (end_of v y) n
           new = step_unreset s drawn d w opening (set_up s drawn within d w i) k n i.caller e o v dates fine step
 

@@ -11,4 +11,4 @@ pub returns : goal.returns
 unfolding MachineStands
 returns c = λ v stands.
     let u : EndView = record v { sender = response_taken v.sender c.args.number c.args.code } in
-    at_view _ _ _ (ap (λ (b : Bool). asking_on (in_progress b u)) (sym (c.is_retried-retries.ensures v stands))) (c.ask_on.ensures _ (c.retry.ensures u (c.respond.ensures v stands)))
+    at_view _ _ _ (ap (λ (b : Bool). asking_on (in_progress b u)) (sym (c.is_asked-answered.ensures v stands))) (c.ask_on.ensures _ (c.restart.ensures u (c.respond.ensures v stands)))

@@ -22,5 +22,4 @@ unfolding MachineStands
 returns-in-ShutdownAck c = λ v stands. rw c.in-ShutdownAck.is (with_due _ v _ _ stands (c.owe_shutdown_ack.ensures v.due stands.due))
 
 pub returns-in-Reset : goal.returns-in-Reset
-unfolding MachineStands
-returns-in-Reset c = λ v stands. rw c.in-Reset.is (with_due _ v _ _ stands (c.owe_request.ensures v.due stands.due))
+returns-in-Reset c = λ v stands. rw c.in-Reset.is (c.repeat_request.ensures v stands)

@@ -8,10 +8,10 @@ use Rattle.sctp_association.proofs.machine.Machine.take_back_request.Goals as go
 
 pub returns-in-Unjoined : goal.returns-in-Unjoined
 unfolding MachineStands
-returns-in-Unjoined c = λ v stands may. absurd (unasked_fresh v.sender _ (unjoined _ _ (record v { sender = asked v.sender }) c.in-Unjoined.is stands).sender)
+returns-in-Unjoined c = λ v stands may was. absurd (unasked_fresh v.sender _ (unjoined _ _ (record v { sender = asked v.sender }) c.in-Unjoined.is stands).sender)
 
 pub returns-in-Joined : goal.returns-in-Joined
 unfolding MachineStands
-returns-in-Joined c = λ v stands may.
+returns-in-Joined c = λ v stands may was.
     let w : EndView = record v { sender = asked v.sender } in
-    with_traffic _ _ _ w v.sender v.receiver c.in-Joined.is stands (c.take_back_request.ensures _ v.sender v.receiver (joined _ _ w c.in-Joined.is stands).traffic may) refl refl
+    with_traffic _ _ _ w v.sender v.receiver c.in-Joined.is stands (c.take_back_request.ensures _ v.sender v.receiver (joined _ _ w c.in-Joined.is stands).traffic may was) refl refl

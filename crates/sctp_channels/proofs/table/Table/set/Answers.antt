@@ -18,5 +18,5 @@ invariant_of-self c =
       used_fits = c.with-self-then-at-len.ensures.fits _ (omega (arith, at, size, there)) (subst (λ (many : _). Fits old.used many) (sym size) old.used_fits);
       are_busy = busy_set old.busy c.with-self.result old.streams.items old.thresholds.items n c.args.to there old.are_busy c.with-self.ensures.same (λ on. subst (λ (k : ℕ). IsWithin c.with-self.result k) (sym at) (c.with-self.ensures.more (c.is_restless.ensures ∙ on)));
       are_used = used_set old.used c.with-self-then-at-len.result old.streams.items n c.args.to there old.are_used c.with-self-then-at-len.ensures.same
-          (λ off. subst (λ (k : ℕ). IsWithin c.with-self-then-at-len.result k) (sym at) (c.with-self-then-at-len.ensures.more (rw c.is_unused.ensures off)));
+          (λ on. subst (λ (k : ℕ). IsWithin c.with-self-then-at-len.result k) (sym at) (c.with-self-then-at-len.ensures.more (c.has_channel.ensures ∙ on)));
     }

@@ -37,7 +37,7 @@ returns-in_err-reserve-clause-refused g c = λ v w.
 
 pub returns-clause-step : goal.returns-clause-step
 unfolding StandsFor
-returns-clause-step g c = λ v w.
+returns-clause-step g c = λ v w lists.
     let f = g.F.Framing.format in
     let r = c.args.self.now in
     let k = kept_of r in
@@ -56,7 +56,7 @@ returns-clause-step g c = λ v w.
       cumulative = wire;
       space = c.in_ok-reserve.ensures.space;
     } in
-    let last = c.on_parameters.ensures (record k { resets = Some (resets_of own) }) v s.cumulative before in
+    let last = c.on_parameters.ensures (record k { resets = Some (resets_of own) }) v s.cumulative c.args.most before lists c.in_ok-reserve.ensures.room in
     let ps = parameter_meaning c.args.first ∷ c.args.others in
     let all = all_requested c.args.limit s.cumulative v ps in
     let stands = stands_resets f r v (Some (with_value b c.on_parameters.new.resets)) all.resets w last in

@@ -9,7 +9,8 @@ pub returns : goal.returns
 returns c = record {
   last = c.tsn_of.ensures;
   result = refl;
-  answers = ap (λ (xs : List ResetResponse). map response_of xs) c.new-2.ensures.items;
+  waited = refl;
+  answers = ap (λ (xs : List ResetResponse). map response_of xs) c.new-3.ensures.items;
   restart = λ s. ap (λ (xs : List Restart). restart_at xs s) c.in_ok-streams.ensures ∙ unreset_at c.args.count s;
   told = c.in_ok-told.ensures.none;
   all = record {

@@ -1,10 +1,11 @@
+use Rattle.std.proofs.Common.{refl, arith}
 use Rattle.sctp_send.proofs.kept.user_data.add_user_bytes.Goals as goal
 
 pub returns-clause-counted : goal.returns-clause-counted
 returns-clause-counted c = record {
-  grown = c.make_count.new.counts.items;
-  same = c.make_count.ensures.same;
-  longer = c.make_count.ensures.longer;
-  reach = λ on. c.in_ok-make_count.ensures.made;
+  grown = c.args.counts.now.items;
+  same = λ s. refl;
+  longer = omega arith;
+  reach = λ on. omega (arith, c.if-from-len.false);
   after = c.add_there.ensures;
 }

@@ -59,7 +59,7 @@ returns-clause-step g c = λ v stands.
     let asleep : c.push-2.new.self.asleep ≡ s.told.dues.asleep = rw (c.push-2.ensures.asleep, c.in-Ok.ensures.asleep) refl in
     let ticket : c.len-given.result + 1 ≡ suc v.tickets = omega (arith, given) in
     let long = length-map s.parts.outstanding.items (item_meaning s.told.fragment) in
-    let more = c.owed-more.ensures ∙ ap (λ (n : ℕ). owed_for n % 2 ^ 64) (c.fragments_of.ensures ∙ ap (λ (b : List ℕ). length (cut s.told.fragment b)) c.deref-2.ensures.value) in
+    let more = c.owed-more.ensures ∙ ap (λ (n : ℕ). owed_for n % 2 ^ 64) (c.fragments_in-fragments.ensures ∙ ap (λ (b : List ℕ). length (cut s.told.fragment b)) c.deref-2.ensures.value) in
     let room = room_queued g.F.Framing.format _ v c.args.stream c.args.bytes.items c.owed_by_accepted.result c.owed-more.result _ keeps none (c.owed_by_accepted.ensures v stands) more (omega (arith, c.in-Ok.ensures.fits, ap (λ (es : List EntryFields). length es) c.in-Ok.ensures.entries, long)) in
     let taken = keeps_queued g.F.Framing.format _ v (lane_for c.args.stream c.args.ordered) c.args.payload_id (c.len-given.result + 1) c.args.bytes.items c.args.until c.args.limit _ _ _ keeps none ticket pushed c.push-2.ensures.small room in
     rw (c.in-Ok.ensures.entries, c.in_ok-enqueue.ensures.waits s.told.fragment, fates, ended, abandoned, asleep, c.of_flag.ensures) taken

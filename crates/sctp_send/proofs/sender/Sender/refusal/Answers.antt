@@ -21,7 +21,7 @@ returns-then-promised-more-gt-TSN_LIMIT-clause-some g c = λ v stands.
     let s = c.self.inside in
     let keeps = subst (λ (k : Kept). Keeps g.F.Framing.format k v) (sym c.self.view_is) stands in
     let long = length-map s.parts.queue.items (queued_by s.told.fragment) in
-    let more = c.owed-more.ensures ∙ ap (λ (n : ℕ). owed_for n % 2 ^ 64) c.fragments_of.ensures in
+    let more = c.owed-more.ensures ∙ ap (λ (n : ℕ). owed_for n % 2 ^ 64) c.fragments_in.ensures in
     spent_owed g.F.Framing.format _ v c.args.stream c.args.bytes.now c.promised-promised.result c.owed-more.result keeps (record { stream = omega arith; sends = sym c.sends.ensures ∙ c.if-not-sends.false; some = omega arith; short = omega arith; waits = omega arith }) (omega arith) (c.promised-promised.ensures v stands) more (omega arith)
 
 pub returns-clause-none : goal.returns-clause-none
@@ -30,5 +30,5 @@ returns-clause-none g c = λ v stands.
     let s = c.self.inside in
     let keeps = subst (λ (k : Kept). Keeps g.F.Framing.format k v) (sym c.self.view_is) stands in
     let long = length-map s.parts.queue.items (queued_by s.told.fragment) in
-    let more = c.owed-more.ensures ∙ ap (λ (n : ℕ). owed_for n % 2 ^ 64) c.fragments_of.ensures in
+    let more = c.owed-more.ensures ∙ ap (λ (n : ℕ). owed_for n % 2 ^ 64) c.fragments_in.ensures in
     none_refuses g.F.Framing.format _ v c.args.stream c.args.bytes.now c.promised-promised.result c.owed-more.result keeps (record { stream = omega arith; sends = sym c.sends.ensures ∙ c.if-not-sends.false; some = omega arith; short = omega arith; waits = omega arith }) (omega arith) (c.promised-promised.ensures v stands) more (omega arith)

@@ -1,4 +1,4 @@
-use Rattle.std.proofs.Common.{◌∙◌, ℕ, List, length, sym, ap, subst, arith}
+use Rattle.std.proofs.Common.{◌≡◌, ◌∙◌, ℕ, max, length, sym, ap, subst, arith}
 use Rattle.std.specs.Prelude.{option_map}
 use Rattle.sctp_model.specs.sender.Filling.{newcomer}
 use Rattle.sctp_model.proofs.sender.FillLaws.{goes_none}
@@ -6,7 +6,6 @@ use Rattle.sctp_model.specs.sender.Queueing.{cut}
 use Rattle.sctp_packet.specs.Draft.{room_in}
 use Rattle.sctp_send.specs.inner.Asking.{IsAsked}
 use Rattle.sctp_send.specs.inner.Stocking.{bare}
-use Rattle.sctp_send.specs.declared.kept.message.Message.{Message as MessageFields}
 use Rattle.sctp_send.proofs.fill.TurnLemmas.{none_waits, first_waits}
 use Rattle.sctp_send.proofs.told.Told.next_new.Goals as goal
 
@@ -18,18 +17,20 @@ returns-then-len-eq0-clause-goes g c = λ v p k room stands.
 
 pub lets_begin-requires-clause-all : goal.lets_begin-requires-clause-all
 lets_begin-requires-clause-all g c =
-    c.fragments_of-all.ensures ∙ ap (λ (bs : List ℕ). length (cut c.args.self.now.fragment bs)) (c.deref-2.ensures.value ∙ ap (λ (m : MessageFields). m.bytes.items) c.deref.ensures)
+    c.fragments-all.ensures.count c.get-message.result.now c.get-message.ensures ∙ ap (λ (n : ℕ). length (cut n c.get-message.result.now.value.bytes.items)) c.requires.queue
 
 pub returns-then-not-lets_begin-clause-goes : goal.returns-then-not-lets_begin-clause-goes
 returns-then-not-lets_begin-clause-goes g c = λ v p k room stands.
     let f = g.F.Framing.format in
-    let its = first_waits f (bare c.args.self.now) v c.args.stock.now c.get-message.result.now c.fragments_of-all.result c.max.result k (sym c.takes_turns.ensures ∙ c.if-takes_turns.false) (omega arith) c.get-message.ensures
-    (c.fragments_of-all.ensures ∙ ap (λ (bs : List ℕ). length (cut c.args.self.now.fragment bs)) (c.deref-2.ensures.value ∙ ap (λ (m : MessageFields). m.bytes.items) c.deref.ensures)) c.max.ensures in
+    let whole : c.fragments-all.result ≡ max c.fragments-all.result 1 = omega (arith, c.fragments-all.ensures.some) in
+    let its = first_waits f (bare c.args.self.now) v c.args.stock.now c.get-message.result.now c.fragments-all.result c.fragments-all.result k (sym c.takes_turns.ensures ∙ c.if-takes_turns.false) (omega arith) c.get-message.ensures
+    (c.fragments-all.ensures.count c.get-message.result.now c.get-message.ensures ∙ ap (λ (n : ℕ). length (cut n c.get-message.result.now.value.bytes.items)) c.requires.queue) whole in
     subst (IsAsked f v p) c.if-not-lets_begin.true (c.lets_begin.ensures.asked v p k room stands its)
 
 pub returns-clause-goes : goal.returns-clause-goes
 returns-clause-goes g c = λ v p k room stands.
     let f = g.F.Framing.format in
-    let its = first_waits f (bare c.args.self.now) v c.args.stock.now c.get-message.result.now c.fragments_of-all.result c.max.result k (sym c.takes_turns.ensures ∙ c.if-takes_turns.false) (omega arith) c.get-message.ensures
-    (c.fragments_of-all.ensures ∙ ap (λ (bs : List ℕ). length (cut c.args.self.now.fragment bs)) (c.deref-2.ensures.value ∙ ap (λ (m : MessageFields). m.bytes.items) c.deref.ensures)) c.max.ensures in
+    let whole : c.fragments-all.result ≡ max c.fragments-all.result 1 = omega (arith, c.fragments-all.ensures.some) in
+    let its = first_waits f (bare c.args.self.now) v c.args.stock.now c.get-message.result.now c.fragments-all.result c.fragments-all.result k (sym c.takes_turns.ensures ∙ c.if-takes_turns.false) (omega arith) c.get-message.ensures
+    (c.fragments-all.ensures.count c.get-message.result.now c.get-message.ensures ∙ ap (λ (n : ℕ). length (cut n c.get-message.result.now.value.bytes.items)) c.requires.queue) whole in
     ((stands, its), subst (IsAsked f v p) c.if-not-lets_begin.false (c.lets_begin.ensures.asked v p k room stands its))

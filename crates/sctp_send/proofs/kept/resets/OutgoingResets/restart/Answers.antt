@@ -1,10 +1,10 @@
-use Rattle.std.proofs.Common.{Option, List, ℕ, refl, subst, ap, sym, ◌∙◌}
+use Rattle.std.proofs.Common.{Option, Some, None, List, ℕ, refl, subst, ap, sym, ◌∙◌}
 use Rattle.std.specs.declared.alloc.Global.{Global}
 use Rattle.std.specs.declared.boxed.Box.{Box}
 use Rattle.sctp_send.specs.ResetsKept.{AreResets}
 use Rattle.sctp_send.specs.inner.Resetting.{all_changed, restarted_by}
 use Rattle.sctp_send.specs.declared.kept.resets.ResetTable.{ResetTable}
-use Rattle.sctp_send.proofs.resetting.WaitingLemmas.{answered_from, anew_waits}
+use Rattle.sctp_send.proofs.resetting.WaitingLemmas.{answered_from, anew_waits, put_back}
 use Rattle.sctp_send.proofs.resetting.ResetTables.{resets_restarted}
 use Rattle.sctp_send.proofs.kept.resets.OutgoingResets.restart.Goals as goal
 
@@ -17,5 +17,6 @@ returns-in-Some-take c = λ n x q count are asked counts.
     let t2 = c.unlist.new.table in
     let streams = c.restart_all.ensures.streams ∙ ap (λ (ss : List ℕ). all_changed (restarted_by c.args.tracks.now) ss d.streams.items) c.deref.ensures.value in
     let i =
-    answered_from (record d { pending = c.take.new.self }) t1 t2 (restarted_by c.args.tracks.now) r.streams.items (λ s x. refl) (anew_waits c.args.tracks.now) c.restart_all.ensures.same streams c.unlist.ensures.same c.unlist.ensures.listed c.unlist.ensures.capacity in
+    put_back _ t2 _ _ (Some (record r { numbering = None })) _
+    (answered_from (record d { last_made = c.take.new.self }) t1 t2 (restarted_by c.args.tracks.now) r.streams.items (λ s x. refl) (anew_waits c.args.tracks.now) c.restart_all.ensures.same streams c.unlist.ensures.same c.unlist.ensures.listed c.unlist.ensures.capacity) in
     resets_restarted n c.args.tracks.now b _ x q d c.take.new.self r count (subst (λ (t : Option (Box ResetTable Global)). AreResets n (record { table = t }) x) c.in-Some.is are) asked c.deref_mut-table.ensures.value (sym c.in-Some-take.ensures.value) c.take.ensures.after i counts

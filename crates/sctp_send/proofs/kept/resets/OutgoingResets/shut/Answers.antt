@@ -17,5 +17,5 @@ returns-in-Some c = λ n x some are.
     let t1 = c.list_stream.new.table in
     let t2 = c.set_sending.new.table in
     let i = shut_from d t1 t2 c.args.stream c.list_stream.ensures.same c.list_stream.ensures.listed c.list_stream.ensures.capacity c.set_sending.ensures.same c.set_sending.ensures.streams in
-    let here = subst (λ (t : ResetTable). IsListed t t2 (changed_at (stream_as Resets) c.args.stream t.streams.items) t.pending t.made) c.deref_mut-table.ensures.value i in
+    let here = subst (λ (t : ResetTable). IsListed t t2 (changed_at (stream_as Resets) c.args.stream t.streams.items) t.last_made t.made) c.deref_mut-table.ensures.value i in
     resets_shut n c.args.stream b _ x (subst (λ (t : Option (Box ResetTable Global)). AreResets n (record { table = t }) x) c.in-Some.is are) here
