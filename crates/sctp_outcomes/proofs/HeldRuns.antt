@@ -30,8 +30,8 @@ HaveFragments w = (x : Side) → 0 < (end_of w x).configuration.fragment
 
 held_step : (w : World) (e : Event) (o : Option Outcome) (v : World) → HaveFragments w → AreReached w → AreHeldWell w → Step w e o v → AreHeldWell v
 held_step w e o v f k r (OpensBoth x y like may dx dy) = at_both v
-    (λ some. begins_paced w.a.configuration w.a.configuration.buffer some, λ q here some. absurd (omega (arith, some)))
-    (λ some. begins_paced w.b.configuration w.b.configuration.buffer some, λ q here some. absurd (omega (arith, some)))
+    (λ some. begins_paced w.a.configuration _ w.a.configuration.buffer some, λ some. absurd (omega (arith, some)))
+    (λ some. begins_paced w.b.configuration _ w.b.configuration.buffer some, λ some. absurd (omega (arith, some)))
 held_step w e o v f k r (OpenRefused x y closed) = r
 held_step w e o v f k r (TimeGoesOn A m small) = at_both v (r A) (r B)
 held_step w e o v f k r (TimeGoesOn B m small) = at_both v (r A) (r B)

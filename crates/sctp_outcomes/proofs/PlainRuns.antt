@@ -24,7 +24,7 @@ at_both v a b A = a
 at_both v a b B = b
 
 pub plain_step : (w : World) (e : Event) (o : Option Outcome) (v : World) → ArePlain w → Step w e o v → ArePlain v
-plain_step w e o v r (OpensBoth x y like may dx dy) = at_both v (plain_anew v.a w.a.configuration.buffer refl) (plain_anew v.b w.b.configuration.buffer refl)
+plain_step w e o v r (OpensBoth x y like may dx dy) = at_both v (plain_anew v.a _ w.a.configuration.buffer refl) (plain_anew v.b _ w.b.configuration.buffer refl)
 plain_step w e o v r (OpenRefused x y closed) = r
 plain_step w e o v r (TimeGoesOn A m small) = at_both v (r A) (r B)
 plain_step w e o v r (TimeGoesOn B m small) = at_both v (r A) (r B)

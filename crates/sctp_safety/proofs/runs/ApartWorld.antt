@@ -215,6 +215,7 @@ opened_agree s w x y c like = record {
   interleave = like.interleave;
   partial = like.partial;
   reset = like.reset;
+  zero_checksum = like.zero_checksum;
   some_streams = (some, some);
 }
   where

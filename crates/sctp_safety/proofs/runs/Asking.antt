@@ -12,12 +12,12 @@ use Rattle.sctp_model.specs.wire.Typed.{Typed}
 use Rattle.sctp_model.specs.wire.Reconfig.{ResetResult, Performed, Denied, WrongStream, BadNumber, InProgress, result_code, is_done_code, is_progress_code, is_number_code}
 use Rattle.sctp_model.specs.messages.Format.{Format, Lane}
 use Rattle.sctp_model.specs.messages.Plan.{Entry, Part, End, entry_at, IsOf}
-use Rattle.sctp_model.specs.sender.Outgoing.{Sending, Sends, Resets, Refuses, is_sending, is_resetting, lists, Numbering, FirstNumber, NextNumber, LaterNumber, takes_next, is_later, Request, Outgoing}
+use Rattle.sctp_model.specs.sender.Outgoing.{Sending, Sends, Resets, Refuses, is_sending, is_resetting, lists, Numbering, FirstNumber, NextNumber, LaterNumber, takes_next, Request, Outgoing}
 use Rattle.sctp_model.specs.sender.SenderView.{SenderView}
 use Rattle.sctp_model.specs.sender.Words.{count_up}
 use Rattle.sctp_model.specs.sender.Entries.{entry_lane, continued}
 use Rattle.sctp_model.specs.sender.Assigning.{is_on}
-use Rattle.sctp_model.specs.sender.Resetting.{with_resets, resetting, has_past, is_still_on, is_ready, ready, has_stream, may_ask, was_said, first_twice, named_next, next_request, asked, numbered_so, retried_in, retried, rebased, reset_done, reset_refused, kept_asking, number_back, answered_in, is_open_number, response_taken}
+use Rattle.sctp_model.specs.sender.Resetting.{with_resets, resetting, has_past, is_still_on, is_ready, ready, has_stream, may_ask, was_said, first_twice, named_next, next_request, asked, numbered_so, retried_in, retried, rebased, reset_done, reset_refused, kept_asking, is_past_first, number_back, answered_in, is_open_number, response_taken}
 use Rattle.sctp_model.specs.sender.Reached.{Rebases}
 use Rattle.sctp_model.specs.receiver.ReceiverView.{ReceiverView}
 use Rattle.sctp_model.specs.world.Calls.{Asked}
@@ -466,7 +466,7 @@ after_retried f n a u r out back d = by a.resets.pending refl
         go true on =
             let parts = and_parts (takes_next q.numbering) (nat_lt a.resets.made REQUEST_LIMIT) on in
             after_numbered f n a u r out back d q is (d.step.kept q is (next_is q.numbering parts.0)) (suc a.resets.made) LaterNumber (omega arith) (omega arith)
-                (let h = parts.1 in grind (arith, nat_tests, h)) (λ e. absurd (cc))
+            (let h = parts.1 in grind (arith, nat_tests, h)) (λ e. absurd (cc))
 
 -- ---- a response to the request that waits, which is the last one
 
@@ -492,10 +492,13 @@ module _ (f : Format) (n : ℕ) (a : SenderView) (u : Asked) (r : ReceiverView) 
 
   -- it is in progress: that is noted, or known
   pub progress_kept : is_open_number a response_number ≡ true → is_progress_code response_code ≡ true → IsKept a r
-  progress_kept on progress = let last = open_last on in (last.0, elim (h.code last.1) [
-    | inl was ↦ inl was.1
-    | inr is ↦ inr (progress_is r.resets.result (subst (λ (c : ℕ). is_progress_code c ≡ true) is progress))
-  ])
+  progress_kept on progress = let last = open_last on in (
+    last.0,
+    elim (h.code last.1) [
+      | inl was ↦ inl was.1
+      | inr is ↦ inr (progress_is r.resets.result (subst (λ (c : ℕ). is_progress_code c ≡ true) is progress))
+    ],
+  )
 
   -- its number is the one that is expected
   pub never_bad_number : (q : Request) → a.resets.pending ≡ Some q → is_open_number a response_number ≡ true → is_progress_code response_code ≡ false → is_number_code response_code ≡ true → ⊥
@@ -516,7 +519,7 @@ module _ (f : Format) (n : ℕ) (a : SenderView) (u : Asked) (r : ReceiverView) 
   after_response = by_number (is_open_number a response_number) refl a.resets.pending refl
     where
       by_code : (q : Request) → a.resets.pending ≡ Some q → is_open_number a response_number ≡ true → (b p w : Bool) → is_done_code response_code ≡ b → is_progress_code response_code ≡ p →
-          (is_number_code response_code && is_later q.numbering) ≡ w →
+          (is_number_code response_code && is_past_first a q) ≡ w →
           Direction f n (if b then reset_done a q else if p then kept_asking a q else if w then number_back a q else reset_refused a q) u r out back
       by_code q waits on true p w done progress other = let last = open_last on in after_done f n a u r out back d q waits last.0 (elim (h.code last.1) [
         | inl was ↦ absurd (progress_not_done response_code was.0 done)
@@ -525,7 +528,7 @@ module _ (f : Format) (n : ℕ) (a : SenderView) (u : Asked) (r : ReceiverView) 
       by_code q waits on false true w done progress other =
           after_numbered f n a u r out back d q waits (progress_kept on progress) a.resets.made NextNumber (omega arith) (omega arith) d.step.few (λ e. refl)
       by_code q waits on false false true done progress other =
-          absurd (never_bad_number q waits on progress (and_parts (is_number_code response_code) (is_later q.numbering) other).0)
+          absurd (never_bad_number q waits on progress (and_parts (is_number_code response_code) (is_past_first a q) other).0)
       by_code q waits on false false false done progress other = let last = open_last on in elim (h.code last.1) [
         | inl was ↦ absurd (let p = was.0 in cc (p, progress))
         | inr is ↦ after_refused f n a u r out back d q waits last.0
@@ -536,4 +539,4 @@ module _ (f : Format) (n : ℕ) (a : SenderView) (u : Asked) (r : ReceiverView) 
       by_number : (b : Bool) → is_open_number a response_number ≡ b → (o : Option Request) → a.resets.pending ≡ o → Direction f n (if b then answered_in a response_code o else a) u r out back
       by_number false off o is = d
       by_number true on None is = d
-      by_number true on (Some q) is = by_code q is on (is_done_code response_code) (is_progress_code response_code) (is_number_code response_code && is_later q.numbering) refl refl refl
+      by_number true on (Some q) is = by_code q is on (is_done_code response_code) (is_progress_code response_code) (is_number_code response_code && is_past_first a q) refl refl refl

@@ -11,9 +11,9 @@ use Rattle.sctp_model.specs.wire.Reconfig.{RECONFIG, OUTGOING_RESET, RECONFIG_RE
 use Rattle.sctp_model.specs.wire.Chunk.{PieceMeaning, ForwardMeaning, ChunkMeaning, Data, IData, Init, InitAck, Sack, Heartbeat, HeartbeatAck, Abort, Shutdown, ShutdownAck, Error, CookieEcho, CookieAck, ShutdownComplete, ForwardTsn, IForwardTsn, Unknown}
 use Rattle.sctp_model.specs.wire.Packet.{Packet}
 use Rattle.sctp_model.specs.messages.Format.{Format}
-use Rattle.sctp_model.specs.sender.Outgoing.{Sending, Sends, Refuses, is_sending, is_resetting, lists, NextNumber, LaterNumber, takes_next, is_later, Request, Outgoing}
+use Rattle.sctp_model.specs.sender.Outgoing.{Sending, Sends, Refuses, is_sending, is_resetting, lists, NextNumber, LaterNumber, takes_next, Request, Outgoing}
 use Rattle.sctp_model.specs.sender.SenderView.{SenderView}
-use Rattle.sctp_model.specs.sender.Resetting.{is_open_number, answered_in, reset_done, reset_refused, kept_asking, number_back, numbered_so, retried_in, retried, response_taken, may_ask, has_stream, ready}
+use Rattle.sctp_model.specs.sender.Resetting.{is_open_number, answered_in, reset_done, reset_refused, kept_asking, is_past_first, number_back, numbered_so, retried_in, retried, response_taken, may_ask, has_stream, ready}
 use Rattle.sctp_model.specs.sender.SackTaken.{sack_taken, shutdown_taken}
 use Rattle.sctp_model.specs.sender.Readers.{point}
 use Rattle.sctp_model.specs.sender.Queueing.{Refusal, refusal}
@@ -25,17 +25,20 @@ use Rattle.sctp_model.specs.receiver.PieceTaken.{PieceAnswer, PieceTaken}
 use Rattle.sctp_model.specs.receiver.ForwardTaken.{ForwardAnswer, ForwardTaken}
 use Rattle.sctp_model.specs.world.Calls.{Call, Asked}
 use Rattle.sctp_model.specs.end.EndView.{Draw, Aborted, TimedOut, Established, ShutdownPending, ShutdownSent, ShutdownReceived, ShutdownAckSent, Phase, Idle, Listening, Calling, Echoing, Open, Over, Alarm, InitAlarm, CookieAlarm, DataAlarm, ShutdownAlarm, AckAlarm, ResetAlarm, EndView, format_of, has_association, unused_timer}
-use Rattle.sctp_model.specs.end.Clock.{closed, with_timer, repeats_of, is_over_at, at_moment, settled, turned, sender_heard, expired_timer, is_home}
+use Rattle.sctp_model.specs.end.EndView.{BeatAlarm, GuardAlarm}
+use Rattle.sctp_model.specs.end.Clock.{closed, with_timer, is_over_at, at_moment, settled, turned, sender_heard, expired_timer, is_home, may_go_on}
 use Rattle.sctp_model.specs.end.Pacing.{Pace}
 use Rattle.sctp_model.specs.end.Closing.{with_due, hears, takes_data, rested}
 use Rattle.sctp_model.specs.end.PeerFaults.{GoesOn, Ends, Replies, Note}
 use Rattle.sctp_model.specs.end.Opening.{AcceptedAck, RefusedAck, EchoedAgain, CookieAcked}
 use Rattle.sctp_model.specs.end.Reconfiguring.{answers_with, request_heard, response_heard, other_heard, asking_on, in_progress, parameter_heard, parameters_heard, asking_now, asking}
-use Rattle.sctp_model.specs.end.Acting.{ReconfigComes, IsUnknown, Acts, PieceEmpty, WrongFormat, ForwardComes, PieceComes, WrongKind, IsBad, IsOld, SackStale, ShutdownStale, SackWrong, ShutdownWrong, HeartbeatCounts, SackCounts, ShutdownCounts, Closes, SaysNothing, Crosses, Again, AckCompletes, CompleteCompleted}
+use Rattle.sctp_model.specs.end.Beating.{beat_heard}
+use Rattle.sctp_model.specs.end.Acting.{ReconfigComes, IsUnknown, Acts, PieceEmpty, WrongFormat, ForwardComes, PieceComes, WrongKind, IsBad, IsOld, SackStale, ShutdownStale, SackWrong, ShutdownWrong, HeartbeatCounts, SackCounts, ShutdownCounts, Closes, SaysNothing, Crosses, Again, AckCompletes, CompleteCompleted, Misnumbered}
 use Rattle.sctp_model.specs.end.Arriving.{Arrives, Elsewhere, NotOurs, Stray, CookieBegins, Heard, Notes, no_notes, urged, packet_ended}
 use Rattle.sctp_model.specs.end.Strays.{Verdict}
 use Rattle.sctp_model.specs.end.Wearing.{missed_below, wearing}
 use Rattle.sctp_model.specs.end.Building.{filled_behind, Slot, Puts, NoMore, NotDue, Put, IsFull, Builds, Sleeps, Waits, Calls, Echoes, EndsFull, Fills, EchoSlot, CookieAckSlot, HeartbeatSlot, ErrorSlot, SackSlot, ForwardSlot, ShutdownSlot, ShutdownAckSlot, once_built, room_behind, AnswerSlot, RequestSlot}
+use Rattle.sctp_model.specs.end.Building.{BeatSlot}
 use Rattle.sctp_model.specs.end.Moments.{after_abandoning, is_data_due, given_up, due_again, rung, ring, rung_all, all_alarms, waited_in, passed, ticked}
 use Rattle.sctp_model.specs.end.UserCalls.{is_established, answer_for, send_answer, send_leaves, NotOpen, is_open, abandoned_at, shut_in, shut, AbortAnswer, Aborts, NoPeer, TooLong, abort_leaves, UserTakes, told_leaves}
 use Rattle.sctp_model.proofs.PacedEnds.{worn_cases}
@@ -134,7 +137,7 @@ response_goes r v number code open_shut keeps no_other = record {
 
     by_request : (o : Option Request) (s : ℕ) → v.resets.pending ≡ o → is_sending ((answered_in v code o).resets.sending s) ≡ false → is_sending (v.resets.sending s) ≡ false
     by_request None s waits h = h
-    by_request (Some q) s waits h = answered q s waits (is_done_code code) (is_progress_code code) (is_number_code code && is_later q.numbering) h
+    by_request (Some q) s waits h = answered q s waits (is_done_code code) (is_progress_code code) (is_number_code code && is_past_first v q) h
 
     shut : (b : Bool) (s : ℕ) → is_sending ((if b then answered_in v code v.resets.pending else v).resets.sending s) ≡ false → is_sending (v.resets.sending s) ≡ false
     shut false s h = h
@@ -156,7 +159,7 @@ response_goes r v number code open_shut keeps no_other = record {
 
     resets_in : (o : Option Request) (s : ℕ) → v.resets.pending ≡ o → is_resetting ((answered_in v code o).resets.sending s) ≡ true → is_resetting (v.resets.sending s) ≡ true
     resets_in None s waits h = h
-    resets_in (Some q) s waits h = resets_by q s waits (is_done_code code) (is_progress_code code) (is_number_code code && is_later q.numbering) h
+    resets_in (Some q) s waits h = resets_by q s waits (is_done_code code) (is_progress_code code) (is_number_code code && is_past_first v q) h
 
     resets : (b : Bool) (s : ℕ) → is_resetting ((if b then answered_in v code v.resets.pending else v).resets.sending s) ≡ true → is_resetting (v.resets.sending s) ≡ true
     resets false s h = h
@@ -175,7 +178,7 @@ response_goes r v number code open_shut keeps no_other = record {
 
     -- one that is noted stays so, as long as its response leaves it
     noted_by : (q : Request) (s : ℕ) (k : IsNoted v r s) → v.resets.pending ≡ Some q → is_open_number v number ≡ true → (b c d : Bool) → is_progress_code code ≡ c →
-        (is_number_code code && is_later q.numbering) ≡ d →
+        (is_number_code code && is_past_first v q) ≡ d →
         is_resetting ((if b then reset_done v q else if c then kept_asking v q else if d then number_back v q else reset_refused v q).resets.sending s) ≡ true →
         IsNoted (if b then reset_done v q else if c then kept_asking v q else if d then number_back v q else reset_refused v q) r s
     noted_by q s k waits is_open true c d progress other on = absurd (set_off q Sends s refl (lists q.streams s) (listed q s k waits) on)
@@ -192,14 +195,14 @@ response_goes r v number code open_shut keeps no_other = record {
         ])
       ]);
     }
-    noted_by q s k waits is_open false false true progress other on = absurd (no_other q waits is_open progress (and_parts (is_number_code code) (is_later q.numbering) other).0)
+    noted_by q s k waits is_open false false true progress other on = absurd (no_other q waits is_open progress (and_parts (is_number_code code) (is_past_first v q) other).0)
     noted_by q s k waits is_open false false false progress other on = absurd (set_off q Refuses s refl (lists q.streams s) (listed q s k waits) on)
 
     noted : (s : ℕ) (k : IsNoted v r s) (b : Bool) → is_open_number v number ≡ b → (o : Option Request) → v.resets.pending ≡ o →
         is_resetting ((if b then answered_in v code o else v).resets.sending s) ≡ true → IsNoted (if b then answered_in v code o else v) r s
     noted s k false is_open o waits on = k
     noted s k true is_open None waits on = k
-    noted s k true is_open (Some q) waits on = noted_by q s k waits is_open (is_done_code code) (is_progress_code code) (is_number_code code && is_later q.numbering) refl refl on
+    noted s k true is_open (Some q) waits on = noted_by q s k waits is_open (is_done_code code) (is_progress_code code) (is_number_code code && is_past_first v q) refl refl on
 
 -- a request that is retransmitted
 retried_goes : (r : ReceiverView) (v : SenderView) → Goes r v (retried v)
@@ -337,9 +340,9 @@ module _ (p : EndView) (u v : Asked) (out back : List Dated) (many : ℕ) where
   asking_on_same : (e : EndView) → LaterEnd p e (asking_on e)
   asking_on_same e = go (is_some e.sender.resets.pending)
     where
-      go : (b : Bool) → LaterEnd p e (if b then e else with_timer ResetAlarm unused_timer (with_due (record e.due { request = false }) e))
+      go : (b : Bool) → LaterEnd p e (if b then e else with_timer ResetAlarm (unused_timer e.configuration.first_wait) (with_due (record e.due { request = false }) e))
       go true = later_itself p e
-      go false = later_same p e (with_timer ResetAlarm unused_timer (with_due (record e.due { request = false }) e)) refl refl
+      go false = later_same p e (with_timer ResetAlarm (unused_timer e.configuration.first_wait) (with_due (record e.due { request = false }) e)) refl refl
 
   by_response : (e : EndView) (x : Typed) → Met e → IsAnsweredBy p.receiver.initial p.receiver x → LaterEnd p e (response_heard e (u32_at x.value) (u32_at (drop 4 x.value)))
   by_response e x m answer =
@@ -348,9 +351,9 @@ module _ (p : EndView) (u v : Asked) (out back : List Dated) (many : ℕ) where
       let t = record e { sender = response_taken e.sender number code } in
       let b = is_open_number e.sender number in
       let first : LaterEnd p e t = later_sender p e t (response_goes p.receiver e.sender number code
-          (λ q waits s listed. let o = m.met.going.step.waiting q waits in (o.shut s listed, o.resets s listed))
-          (progress_kept (format_of e) e.terms.outbound e.sender u p.receiver out back m.met.going x answer)
-          (never_bad_number (format_of e) e.terms.outbound e.sender u p.receiver out back m.met.going x answer)) refl in
+      (λ q waits s listed. let o = m.met.going.step.waiting q waits in (o.shut s listed, o.resets s listed))
+      (progress_kept (format_of e) e.terms.outbound e.sender u p.receiver out back m.met.going x answer)
+      (never_bad_number (format_of e) e.terms.outbound e.sender u p.receiver out back m.met.going x answer)) refl in
       later_on p e t (response_heard e number code) first
       (later_on p t (in_progress b t) (response_heard e number code) (in_progress_same b t) (asking_on_same (in_progress b t)))
 
@@ -377,15 +380,15 @@ module _ (p : EndView) (u v : Asked) (out back : List Dated) (many : ℕ) where
       (let same = (parameter_same c e x).receiver in subst (λ (r : ReceiverView). IsCumulative r c) (sym same.1) (record { reached = cumulative.reached; open_end = cumulative.open_end })))
 
   goes : (e : EndView) (tag : ℕ) (x : ChunkMeaning) (y : Note) (t : EndView) → Comes p many back x → Met e → Acts e tag x (GoesOn y t) → LaterEnd p e t
-  goes e tag (Data d) y t has m (PieceComes k g o r is hears some same taken) = later_receiver p e t refl (by_data e d o r m has taken)
-  goes e tag (IData d) y t has m (PieceComes k g o r is hears some same taken) = later_receiver p e t refl (by_i_data e d o r m has taken)
+  goes e tag (Data d) y t has m (PieceComes k g o r is hears some same taken right) = later_receiver p e t refl (by_data e d o r m has taken)
+  goes e tag (IData d) y t has m (PieceComes k g o r is hears some same taken right) = later_receiver p e t refl (by_i_data e d o r m has taken)
   goes e tag (Init i) y t has m h = absurd (cc)
   goes e tag (InitAck i) y t has m (AcceptedAck d cookie is tagged value fault) = absurd (not_calling e.phase d is m.met.phase)
   goes e tag (Sack s) y t has m (SackStale hears fault) = later_same p e t refl refl
   goes e tag (Sack s) y t has m (SackCounts hears none) =
       later_sender p e t (heard_goes p.receiver e.pace e.moment e.sender (sack_taken e.sender s) (goes_since p.receiver e.sender (sack_taken e.sender s) (since_same e.sender (sack_taken e.sender s) refl refl refl) refl)) refl
   goes e tag (Heartbeat i) y t has m (HeartbeatCounts hears) = later_same p e t refl refl
-  goes e tag (HeartbeatAck i) y t has m h = let q : t ≡ e = cc in subst (LaterEnd p e) (sym q) (later_itself p e)
+  goes e tag (HeartbeatAck i) y t has m h = let q : t ≡ beat_heard e i = cc in subst (LaterEnd p e) (sym q) (later_same p e (beat_heard e i) refl refl)
   goes e tag (Abort b xs) y t has m h = absurd (cc)
   goes e tag (Shutdown n) y t has m (ShutdownStale k g is hears fault) = later_same p e t refl refl
   goes e tag (Shutdown n) y t has m (ShutdownCounts k g is hears none) =
@@ -431,8 +434,10 @@ module _ (p : EndView) (u v : Asked) (out back : List Dated) (many : ℕ) where
   replies : (e : EndView) (tag : ℕ) (x : ChunkMeaning) (t : EndView) (r : Packet) → Acts e tag x (Replies t r) → LaterEnd p e t
   replies e tag (Data d) t r (PieceEmpty _ _ _ _ _) = later_same p e t refl refl
   replies e tag (Data d) t r (WrongFormat _ _ _ _ _ _) = later_same p e t refl refl
+  replies e tag (Data d) t r (Misnumbered _ _ _ _ _ _ _ _ _) = later_same p e t refl refl
   replies e tag (IData d) t r (PieceEmpty _ _ _ _ _) = later_same p e t refl refl
   replies e tag (IData d) t r (WrongFormat _ _ _ _ _ _) = later_same p e t refl refl
+  replies e tag (IData d) t r (Misnumbered _ _ _ _ _ _ _ _ _) = later_same p e t refl refl
   replies e tag (Init i) t r h = absurd (cc)
   replies e tag (InitAck i) t r (RefusedAck _ _ _ _ _) = later_same p e t refl refl
   replies e tag (Sack s) t r (SackWrong _ _ _ _ _) = later_same p e t refl refl
@@ -492,6 +497,7 @@ later_built : (p : EndView) (s : Slot) (e : EndView) → LaterEnd p e (once_buil
 later_built p EchoSlot e = later_same p e _ refl refl
 later_built p CookieAckSlot e = later_same p e _ refl refl
 later_built p HeartbeatSlot e = later_same p e _ refl refl
+later_built p BeatSlot e = later_same p e _ refl refl
 later_built p ErrorSlot e = later_same p e _ refl refl
 later_built p SackSlot e = later_receiver p e _ refl (onward_calm p.sender e.receiver _ (λ j h. h) refl (λ s. refl) (λ s n is. is) (λ s k. noted_received p.sender e.receiver _ s refl refl refl refl refl k))
 later_built p ForwardSlot e = later_same p e _ refl refl
@@ -520,7 +526,7 @@ later_asking p e = go (e.terms.reset && (is_home ResetAlarm e.phase && may_ask e
     go true on =
         let may = (and_parts (is_home ResetAlarm e.phase) (may_ask e.sender) (and_parts e.terms.reset (is_home ResetAlarm e.phase && may_ask e.sender) on).1).1 in
         later_sender p e (asking_now true e)
-            (record { since = since_same e.sender _ refl refl refl; shut = λ s h. h; resets = λ s h. h; noted = λ s k on_it. absurd (none_waits may s k) }) refl
+        (record { since = since_same e.sender _ refl refl refl; shut = λ s h. h; resets = λ s h. h; noted = λ s k on_it. absurd (none_waits may s k) }) refl
     go false off = later_itself p e
 
 pub builds_later : (p e : EndView) (zs : List ChunkMeaning) (t : EndView) → Builds e zs t → LaterEnd p e t
@@ -545,13 +551,15 @@ later_again p DataAlarm e = later_sender p e _ (goes_since p.receiver e.sender (
 later_again p ShutdownAlarm e = later_same p e _ refl refl
 later_again p AckAlarm e = later_same p e _ refl refl
 later_again p ResetAlarm e = later_sender p e _ (retried_goes p.receiver e.sender) refl
+later_again p BeatAlarm e = later_same p e _ refl refl
+later_again p GuardAlarm e = later_same p e _ refl refl
 
 later_rung : (p : EndView) (b : Bool) (a : Alarm) (e : EndView) → LaterEnd p e (rung b a e)
 later_rung p false a e = later_itself p e
-later_rung p true a e = go (nat_lt (e.timers a).repeats (repeats_of a))
+later_rung p true a e = go (may_go_on a e)
   where
-    go : (c : Bool) → LaterEnd p e (if c then due_again a (with_timer a (expired_timer (e.timers a)) e) else closed TimedOut e)
-    go true = let x = with_timer a (expired_timer (e.timers a)) e in later_on p e x (due_again a x) (later_same p e x refl refl) (later_again p a x)
+    go : (c : Bool) → LaterEnd p e (if c then due_again a (with_timer a (expired_timer e.configuration.longest_wait (e.timers a)) e) else closed TimedOut e)
+    go true = let x = with_timer a (expired_timer e.configuration.longest_wait (e.timers a)) e in later_on p e x (due_again a x) (later_same p e x refl refl) (later_again p a x)
     go false = later_same p e _ refl refl
 
 later_rung_all : (p : EndView) (alarms : List Alarm) (e : EndView) → LaterEnd p e (rung_all alarms e)
@@ -584,13 +592,15 @@ again_receiver DataAlarm e = refl
 again_receiver ShutdownAlarm e = refl
 again_receiver AckAlarm e = refl
 again_receiver ResetAlarm e = refl
+again_receiver BeatAlarm e = refl
+again_receiver GuardAlarm e = refl
 
 rung_receiver : (b : Bool) (a : Alarm) (e : EndView) → (rung b a e).receiver ≡ e.receiver
 rung_receiver false a e = refl
-rung_receiver true a e = go (nat_lt (e.timers a).repeats (repeats_of a))
+rung_receiver true a e = go (may_go_on a e)
   where
-    go : (c : Bool) → (if c then due_again a (with_timer a (expired_timer (e.timers a)) e) else closed TimedOut e).receiver ≡ e.receiver
-    go true = again_receiver a (with_timer a (expired_timer (e.timers a)) e)
+    go : (c : Bool) → (if c then due_again a (with_timer a (expired_timer e.configuration.longest_wait (e.timers a)) e) else closed TimedOut e).receiver ≡ e.receiver
+    go true = again_receiver a (with_timer a (expired_timer e.configuration.longest_wait (e.timers a)) e)
     go false = refl
 
 rung_all_receiver : (alarms : List Alarm) (e : EndView) → (rung_all alarms e).receiver ≡ e.receiver
