@@ -366,7 +366,7 @@ asking_rung true ShutdownAlarm e r = either (nat_lt (e.timers ShutdownAlarm).rep
 asking_rung true AckAlarm e r = either (nat_lt (e.timers AckAlarm).repeats (repeats_of AckAlarm)) _ _ r tt
 asking_rung true ResetAlarm e r =
     either (nat_lt (e.timers ResetAlarm).repeats (repeats_of ResetAlarm)) _ _ (subst (λ (w : Bool). Goes e.phase w true false) (sym (retried_waits e.sender))
-        (due_or_runs e.phase (is_some e.sender.resets.pending) e.due.request (runs (e.timers ResetAlarm)) true false refl r)) tt
+    (due_or_runs e.phase (is_some e.sender.resets.pending) e.due.request (runs (e.timers ResetAlarm)) true false refl r)) tt
 
 asking_rung_all : (alarms : List Alarm) (e : EndView) → IsAskingAt e → IsAskingAt (rung_all alarms e)
 asking_rung_all [] e r = r

@@ -156,7 +156,6 @@ again = packet_of p7.a (reconfig_chunk second ∷ [])
 abbrev p8 : World
 p8 = with_packet (with_end p7 A (packet_built (end_now p7 A) 0).after) A again
 
-
 built_8 : Step p7 (Build A) (Some (Sent 2 (size_of_packet (reconfig_chunk second ∷ [])))) p8
 unfolding u16_bytes u32_bytes u16_at u32_at starts_typed typed_of
 built_8 = BuildsOne A (reconfig_chunk second) [] (packet_built (end_now p7 A) 0).after (builds_are tags_a Established (end_now p7 A) 0 refl (bound_none p7.a.receiver refl))

@@ -162,10 +162,13 @@ module _ (x : Side) (n : ℕ) where
                 let was : waiting w ≡ 1 = ap (λ (q : Option ℕ). one_if (is_some q)) before in
                 let low = c.within in
                 (omega (arith, now, was, low), λ less. inr (omega (arith, now, was, less)))
-            by (inr new) = (elim (c.asked new.2) [
-              | inl noted ↦ absurd (new.1 noted)
-              | inr less ↦ omega (arith, now, less)
-            ], λ less. inl new.0)
+            by (inr new) = (
+              elim (c.asked new.2) [
+                | inl noted ↦ absurd (new.1 noted)
+                | inr less ↦ omega (arith, now, less)
+              ],
+              λ less. inl new.0,
+            )
 
         none : one_if false ≡ 0
         none = refl
@@ -208,7 +211,7 @@ module _ (x : Side) (n : ℕ) where
     counted t a w (e ∷ es) (o ∷ os) (v ∷ vs) fine (step, passes) (now, kept) i c =
         let this = fine e (inl refl) in
         let low = counted (t + one_if (is_reported (other x) n e o)) (a + one_if (is_reset x n e o)) v es os vs (λ y h. fine y (inr h)) passes kept
-            (steady_step s drawn configured d w v e o now this i step) (one_more t a w v e o (step_resets s drawn configured d w v e o now this i step x n) step c) in
+        (steady_step s drawn configured d w v e o now this i step) (one_more t a w v e o (step_resets s drawn configured d w v e o now this i step x n) step c) in
         let sum : t + (one_if (is_reported (other x) n e o) + count_of (is_reported (other x) n) es os) ≤ a + (one_if (is_reset x n e o) + count_of (is_reset x n) es os) = omega (arith, low) in
         sum
     counted t a w [] (o ∷ os) vs fine passes kept i c = absurd passes
@@ -225,5 +228,5 @@ starts s B n = record { within = omega arith; asked = λ on. absurd (cc) }
 pub resets_are_reported_once : ResetsAreReportedOnce
 resets_are_reported_once s es os vs configured passes premises aged x n =
     let low = counted x n s (drawn_in es) configured (dates_of (start s) vs) 0 0 (start s) es os vs (fine_by s es premises) passes (kept_in_time s es os vs passes aged)
-        (steady_start s es (dates_of (start s) vs)) (starts s x n) in
+    (steady_start s es (dates_of (start s) vs)) (starts s x n) in
     omega (arith, low)

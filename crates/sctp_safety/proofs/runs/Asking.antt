@@ -466,7 +466,7 @@ after_retried f n a u r out back d = by a.resets.pending refl
         go true on =
             let parts = and_parts (takes_next q.numbering) (nat_lt a.resets.made REQUEST_LIMIT) on in
             after_numbered f n a u r out back d q is (d.step.kept q is (next_is q.numbering parts.0)) (suc a.resets.made) LaterNumber (omega arith) (omega arith)
-                (let h = parts.1 in grind (arith, nat_tests, h)) (λ e. absurd (cc))
+            (let h = parts.1 in grind (arith, nat_tests, h)) (λ e. absurd (cc))
 
 -- ---- a response to the request that waits, which is the last one
 
@@ -492,10 +492,13 @@ module _ (f : Format) (n : ℕ) (a : SenderView) (u : Asked) (r : ReceiverView) 
 
   -- it is in progress: that is noted, or known
   pub progress_kept : is_open_number a response_number ≡ true → is_progress_code response_code ≡ true → IsKept a r
-  progress_kept on progress = let last = open_last on in (last.0, elim (h.code last.1) [
-    | inl was ↦ inl was.1
-    | inr is ↦ inr (progress_is r.resets.result (subst (λ (c : ℕ). is_progress_code c ≡ true) is progress))
-  ])
+  progress_kept on progress = let last = open_last on in (
+    last.0,
+    elim (h.code last.1) [
+      | inl was ↦ inl was.1
+      | inr is ↦ inr (progress_is r.resets.result (subst (λ (c : ℕ). is_progress_code c ≡ true) is progress))
+    ],
+  )
 
   -- its number is the one that is expected
   pub never_bad_number : (q : Request) → a.resets.pending ≡ Some q → is_open_number a response_number ≡ true → is_progress_code response_code ≡ false → is_number_code response_code ≡ true → ⊥

@@ -251,8 +251,8 @@ module _ (f : Format) (n : ℕ) (a : SenderView) (u : Asked) (r : ReceiverView) 
     -- it is noted so if it is in progress again,
     noted_again : (x : Request) → a.resets.pending ≡ Some x → IsNotedDone a r x → (y : ResetResult) → y ≡ InProgress → (xs : List Typed) → IsNotedDone a (with_answers (with_answer r m y) xs) x
     noted_again x w noted y is xs = inl (
-      ap (waited_on r m) is ∙ ap (λ (b : Bool). Some (as_said b)) (once x w noted) ∙ ap (λ (v : Waited). Some v) says ∙ ap (λ (z : Request). Some (noted_done r.initial z)) (sym (its x w))
-    )
+        ap (waited_on r m) is ∙ ap (λ (b : Bool). Some (as_said b)) (once x w noted) ∙ ap (λ (v : Waited). Some v) says ∙ ap (λ (z : Request). Some (noted_done r.initial z)) (sym (its x w))
+        )
 
     -- the next number is not of one that keeps its number
     not_kept : is_next r m.number ≡ true → takes_next q.numbering ≡ false
@@ -272,7 +272,7 @@ module _ (f : Format) (n : ℕ) (a : SenderView) (u : Asked) (r : ReceiverView) 
           ap (λ (c : Bool). if c then no_waited else Some (as_said true)) next,
           refl,
           (let e : (if is_next r m.number then suc r.resets.taken else r.resets.taken) ≡ suc r.resets.taken = ap (λ (c : Bool). if c then suc r.resets.taken else r.resets.taken) next in
-          let h = next_is next in let l = ask.made in let k = d.step.next in omega (arith, e, h, l, k)),
+              let h = next_is next in let l = ask.made in let k = d.step.next in omega (arith, e, h, l, k)),
           not_kept next,
         )
         go false again = inl (ap (λ (c : Bool). if c then no_waited else Some (as_said true)) again ∙ ap (λ (w : Waited). Some w) says)
@@ -302,10 +302,13 @@ module _ (f : Format) (n : ℕ) (a : SenderView) (u : Asked) (r : ReceiverView) 
           number = h.number;
           taken = let k = h.taken in let e : s.taken ≡ r.resets.taken = by_off in omega (arith, k, e);
           wire = h.wire;
-          code = λ same. inl (elim (h.code (same ∙ by_off)) [
-            | inl on ↦ on.0
-            | inr is ↦ subst (λ (k : ℕ). is_progress_code k ≡ true) (sym (is ∙ ap result_code was_progress)) refl
-          ], was_waiting x s off waited);
+          code = λ same. inl (
+            elim (h.code (same ∙ by_off)) [
+              | inl on ↦ on.0
+              | inr is ↦ subst (λ (k : ℕ). is_progress_code k ≡ true) (sym (is ∙ ap result_code was_progress)) refl
+            ],
+            was_waiting x s off waited,
+          );
         }
           where
             by_off : s.taken ≡ r.resets.taken
@@ -610,7 +613,7 @@ module _ (f : Format) (n : ℕ) (a : SenderView) (u : Asked) (r : ReceiverView) 
       never_wrong : (on : is_in_turn r m.number ≡ true) → reset_answer r c m ≡ WrongStream → ⊥
       never_wrong on e =
           let none : list_any (nat_le r.streams) m.streams ≡ false =
-              ap (list_any (nat_le r.streams)) ((asked on).1 ∙ ap (λ (y : Request). y.streams) (sym (its on k.request k.waits))) ∙ k.there in
+          ap (list_any (nat_le r.streams)) ((asked on).1 ∙ ap (λ (y : Request). y.streams) (sym (its on k.request k.waits))) ∙ k.there in
           by_behind (is_behind r c m.last) refl none
         where
           by_behind : (b : Bool) → is_behind r c m.last ≡ b → list_any (nat_le r.streams) m.streams ≡ false → ⊥

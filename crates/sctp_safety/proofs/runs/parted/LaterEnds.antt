@@ -348,9 +348,9 @@ module _ (p : EndView) (u v : Asked) (out back : List Dated) (many : ℕ) where
       let t = record e { sender = response_taken e.sender number code } in
       let b = is_open_number e.sender number in
       let first : LaterEnd p e t = later_sender p e t (response_goes p.receiver e.sender number code
-          (λ q waits s listed. let o = m.met.going.step.waiting q waits in (o.shut s listed, o.resets s listed))
-          (progress_kept (format_of e) e.terms.outbound e.sender u p.receiver out back m.met.going x answer)
-          (never_bad_number (format_of e) e.terms.outbound e.sender u p.receiver out back m.met.going x answer)) refl in
+      (λ q waits s listed. let o = m.met.going.step.waiting q waits in (o.shut s listed, o.resets s listed))
+      (progress_kept (format_of e) e.terms.outbound e.sender u p.receiver out back m.met.going x answer)
+      (never_bad_number (format_of e) e.terms.outbound e.sender u p.receiver out back m.met.going x answer)) refl in
       later_on p e t (response_heard e number code) first
       (later_on p t (in_progress b t) (response_heard e number code) (in_progress_same b t) (asking_on_same (in_progress b t)))
 
@@ -520,7 +520,7 @@ later_asking p e = go (e.terms.reset && (is_home ResetAlarm e.phase && may_ask e
     go true on =
         let may = (and_parts (is_home ResetAlarm e.phase) (may_ask e.sender) (and_parts e.terms.reset (is_home ResetAlarm e.phase && may_ask e.sender) on).1).1 in
         later_sender p e (asking_now true e)
-            (record { since = since_same e.sender _ refl refl refl; shut = λ s h. h; resets = λ s h. h; noted = λ s k on_it. absurd (none_waits may s k) }) refl
+        (record { since = since_same e.sender _ refl refl refl; shut = λ s h. h; resets = λ s h. h; noted = λ s k on_it. absurd (none_waits may s k) }) refl
     go false off = later_itself p e
 
 pub builds_later : (p e : EndView) (zs : List ChunkMeaning) (t : EndView) → Builds e zs t → LaterEnd p e t
