@@ -11,7 +11,7 @@ use Rattle.sctp_model.proofs.sender.OwedLaws.{sum-zero}
 use Rattle.sctp_model.proofs.sender.PointLaws.{get-drop}
 use Rattle.sctp_model.specs.sender.Queueing.{owed_by_queue, owed_by_parts}
 use Rattle.sctp_send.specs.SenderKept.{Item, Kept}
-use Rattle.sctp_send.specs.SenderStands.{table, track_here, item_here, items_from, Keeps}
+use Rattle.sctp_send.specs.SenderStands.{table, track_here, item_here, items_from, Keeps, plain_limits}
 use Rattle.sctp_send.specs.OutstandingFields.{item_meaning}
 use Rattle.sctp_send.specs.inner.Dues.{some_late, standing_message, standing_messages, is_asleep}
 use Rattle.sctp_send.specs.inner.Walks.{any_item}
@@ -100,6 +100,7 @@ keeps_marked f s v test from to k tells =
       resets = k.resets;
       before = k.before;
       counted = k.counted;
+      limits = k.limits;
       reached = Repeats v test k.reached;
     }
   where
@@ -120,9 +121,9 @@ offsets_all last k lt = grind (arith, nat_tests)
 -- a sender that was given nothing
 pub keeps_fresh : (f : Format) (initial streams fragment rwnd capacity : ℕ) (partial : Bool) → 0 < fragment
     → Keeps f (record { initial = initial; streams = streams; fragment = fragment; partial = partial; cum = 0; rwnd = rwnd; turn = 0; items = []; queue = []; tracks = replicate streams (record { ordered = 0; unordered = 0; rest = None }); fates = []; ended = 0; abandoned = 0; runs = Some []; capacity = capacity; passed = 0; moments = []; asleep = false; before = 0; forward = None; resets = record { table = None } })
-    (fresh_sender initial streams fragment rwnd partial)
+    (fresh_sender initial streams fragment rwnd partial plain_limits)
 keeps_fresh f initial streams fragment rwnd capacity partial large =
-    let v = fresh_sender initial streams fragment rwnd partial in
+    let v = fresh_sender initial streams fragment rwnd partial plain_limits in
     let tracks : table (track_here v) 0 streams ≡ replicate streams (record { ordered = 0; unordered = 0; rest = None }) = table-replicate _ 0 streams in
     let room : 0 + (owed_by_queue [] + owed_by_parts v) ≤ capacity = let none = sum-zero (λ j. 0) streams (λ j. refl) in omega (arith, none) in record {
       holds = assumption (sym tracks, room);
@@ -132,5 +133,6 @@ keeps_fresh f initial streams fragment rwnd capacity partial large =
       resets = record { base = refl; sending = λ s low. refl; made = refl; pending = refl; last = refl; table = tt };
       before = refl;
       counted = refl;
-      reached = Begins initial streams fragment rwnd partial large;
+      limits = refl;
+      reached = Begins initial streams fragment rwnd partial plain_limits large;
     }
