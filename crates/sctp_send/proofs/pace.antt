@@ -4,6 +4,7 @@ pub mod BlockLemmas
 pub mod RepeatLemmas
 pub mod PaceViews
 pub mod LastLemmas
+pub mod ChunkLemmas
 pub mod FlyingLemmas
 pub mod WeighLemmas
 pub mod AfterLemmas

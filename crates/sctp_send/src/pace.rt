@@ -8,11 +8,12 @@ pub mod weighing;
 pub mod weight;
 
 ghost use Rattle.std.specs.Prelude.{◌≡◌, ◌+◌, ◌<◌, ◌≤◌, ◌%◌, ◌^◌, ◌||◌};
+ghost use Rattle.sctp_model.specs.messages.Framing.{header_of};
 ghost use Rattle.sctp_model.specs.sender.SenderView.{SenderView};
 ghost use Rattle.sctp_model.specs.sender.Entries.{in_flight};
 ghost use Rattle.sctp_model.specs.sender.Filling.{fill};
 ghost use Rattle.sctp_model.specs.end.Misses.{last_sent};
-ghost use Rattle.sctp_model.specs.end.Control.{room_of_repeats};
+ghost use Rattle.sctp_model.specs.end.Control.{chunk_flight, room_of_repeats};
 ghost use Rattle.sctp_send.specs.SenderStands.{StandsFor};
 ghost use Rattle.sctp_send.specs.PaceAnswers.{first_in_flight};
 
@@ -28,6 +29,13 @@ impl<F: Framing> Sender<F> {
         ensures { (v : SenderView) → StandsFor F.format self.now v → result ≡ in_flight v }
     {
         self.parts.outstanding.flight()
+    }
+
+    /// The bytes of the chunks in flight, with their headers and padding: what congestion control counts (RFC 9260, 7.2).
+    pub fn chunk_flight(&self) -> u64
+        ensures { (v : SenderView) → StandsFor F.format self.now v → result ≡ chunk_flight (header_of F.format) v }
+    {
+        self.parts.outstanding.chunk_flight()
     }
 
     /// The highest index that was sent; 0 before the first chunk (RFC 9260, 6.3.1, C4; 7.2.4, step 6).

@@ -63,7 +63,7 @@ impl<F: Framing> Model for Sender<F> {
       resets = s.told.resets;
     } };
 
-    ghost invariant = { λ s. IsSized s.told.fragment s.parts };
+    ghost invariant = { λ s. IsSized F.format s.told.fragment s.parts };
 }
 
 #[tactic(auto, unfolding(crate::specs::SenderStands::StandsFor))]
@@ -110,7 +110,7 @@ impl<F: Framing> Sender<F> {
             },
             parts: Stock {
                 // what is outstanding, by offset from CUM + 1
-                outstanding: Outstanding::new(alloc, fragment),
+                outstanding: Outstanding::new(alloc, fragment, F::header() as u16),
                 queue: Queue::new(alloc, fragment, F::takes_turns()),
                 streams: all_streams,
                 turn: 0,

@@ -107,7 +107,7 @@ loop_more f s v p now later old new steps n r q x few put counted =
 -- wishes went.
 pub record IsFilledSoFar (f : Format) (s : Kept) (p now : PacketDraft) (old new : Stock) (steps n : ℕ) (r : Sendings) : Type 0 where
   pub reserved : now.space ≡ true
-  pub sized : IsSized s.fragment new
+  pub sized : IsSized f s.fragment new
   pub left : vec_capacity old.tickets + vec_len new.tickets ≤ vec_capacity new.tickets + steps
   pub so_far : (v : SenderView) → Keeps f (stocked s old) v → IsSoFar f s v p now new steps n r
 

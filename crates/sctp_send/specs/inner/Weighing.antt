@@ -2,6 +2,7 @@
 use Rattle.std.specs.Prelude.{◌≡◌, ℕ, zero, suc, ◌+◌, ◌-◌, ◌<◌, ◌≤◌, ◌%◌, ◌^◌, nat_le, Bool, true, false, not, ◌&&◌, ◌||◌, if◌then◌else◌, List, [], ◌∷◌, length, slice_get, Option, None, Some}
 use Rattle.std.specs.Option.{option_map_or}
 use Rattle.sctp_model.specs.wire.Chunk.{padded}
+use Rattle.sctp_model.specs.end.Control.{whole}
 use Rattle.sctp_model.specs.messages.Format.{Format}
 use Rattle.sctp_model.specs.messages.Framing.{header_of}
 use Rattle.sctp_model.specs.sender.SenderView.{SenderView}
@@ -47,6 +48,10 @@ is_item_news x = x.sent && not x.covered
 abbrev pub unsettled_bytes : Item → ℕ
 unsettled_bytes x = if is_item_unsettled x then length (item_bytes x) else 0
 
+-- the bytes of its chunk
+abbrev pub unsettled_chunk : (header : ℕ) → Item → ℕ
+unsettled_chunk header x = whole header (unsettled_bytes x)
+
 -- the item at an offset passes
 abbrev pub passes_here : (Item → Bool) → List Item → ℕ → Bool
 passes_here test xs k = some_passes test (slice_get xs k)
@@ -71,17 +76,17 @@ FirstAnswer on lo hi (Some at) = IsFirst on lo hi at
 abbrev pub is_news : List Item → (on : ℕ → Bool) → ℕ → Bool
 is_news xs on j = on j && passes_here is_item_news xs (j - 1)
 
--- its bytes, by its offset counted from 0
-abbrev pub news_weight : List Item → (on : ℕ → Bool) → ℕ → ℕ
-news_weight xs on k = if on (suc k) then option_map_or unsettled_bytes (slice_get xs k) 0 else 0
+-- the bytes of its chunk, by its offset counted from 0
+abbrev pub news_weight : (header : ℕ) → List Item → (on : ℕ → Bool) → ℕ → ℕ
+news_weight header xs on k = if on (suc k) then option_map_or (unsettled_chunk header) (slice_get xs k) 0 else 0
 
 -- An offset at which nothing is newly acknowledged.
 abbrev pub IsIdle : List Item → (on : ℕ → Bool) → ℕ → Type 0
 IsIdle xs on j = (on j && passes_here is_item_open xs (j - 1)) ≡ false
 
--- The sums over the first items; the bytes modulo 2^64.
-pub record IsTally (xs : List Item) (on : ℕ → Bool) (t : Tally) : Type 0 where
-  pub bytes : t.bytes ≡ sum_below (news_weight xs on) t.at % 2 ^ 64
+-- The sums over the first items; the bytes of chunks modulo 2^64.
+pub record IsTally (header : ℕ) (xs : List Item) (on : ℕ → Bool) (t : Tally) : Type 0 where
+  pub bytes : t.bytes ≡ sum_below (news_weight header xs on) t.at % 2 ^ 64
   pub last : t.newest ≡ last_that (is_news xs on) t.at
 
 -- There are so many items, nothing waits for retransmission, so that all that is outstanding is in flight, and the last item is news.
@@ -96,8 +101,8 @@ abbrev pub LieCovered : List CoveredRun → List Item → Type 0
 LieCovered rs xs = (j : ℕ) → 0 < j → in_runs rs j ≡ true → passes_here is_item_open xs (j - 1) ≡ false
 
 -- All that is newly acknowledged is in the sums, and the last offset that is acknowledged then is this one.
-pub record IsTallied (xs : List Item) (on : ℕ → Bool) (t : Tally) : Type 0 where
-  pub tally : IsTally xs on t
+pub record IsTallied (header : ℕ) (xs : List Item) (on : ℕ → Bool) (t : Tally) : Type 0 where
+  pub tally : IsTally header xs on t
   pub here : on t.at ≡ true
   pub beyond : (j : ℕ) → t.at < j → on j ≡ false
 

@@ -34,6 +34,7 @@ fn send_one(entries: &mut VecDeque<Entry>, counts: &mut Counts, size: u16, at: u
     requires counted { IsCounted size entries.old.items counts.old }
     ensures items { entries.new.items ≡ changed_at went_out at entries.old.items }
     ensures counted { IsCounted size entries.new.items counts.new }
+    ensures header { counts.new.header ≡ counts.old.header }
     ensures capacity { deque_capacity entries.new ≡ deque_capacity entries.old }
 {
     if !is_first_sending(&entries[at]) {
@@ -53,6 +54,7 @@ fn send_again(entries: &mut VecDeque<Entry>, counts: &mut Counts, size: u16, at:
     requires counted { IsCounted size entries.old.items counts.old }
     ensures items { entries.new.items ≡ changed_at went_out at entries.old.items }
     ensures counted { IsCounted size entries.new.items counts.new }
+    ensures header { counts.new.header ≡ counts.old.header }
     ensures capacity { deque_capacity entries.new ≡ deque_capacity entries.old }
 {
     let entry = &entries[at];

@@ -1,6 +1,7 @@
 //! What an acknowledgement does, weighed before it is taken (RFC 9260, 6.3.1 and 7.2).
 
 ghost use Rattle.std.specs.Prelude.{◌≡◌, ℕ, Bool, Option, ◌+◌, ◌-◌, ◌<◌, ◌≤◌, ◌%◌, ◌^◌, ◌||◌, ◌&&◌, not, nat_lt, nat_le, true, false, None, map, length, IfSome};
+ghost use Rattle.sctp_model.specs.messages.Framing.{header_of};
 ghost use Rattle.sctp_model.specs.sender.SenderView.{SenderView};
 ghost use Rattle.sctp_model.specs.sender.Words.{when};
 ghost use Rattle.sctp_model.specs.sender.SackTaken.{sack_fault, sack_after, sack_covers, shutdown_fault, shutdown_after};
@@ -60,7 +61,7 @@ impl<F: Framing> Sender<F> {
 
     /// The weight of an acknowledgement that moves CUM by so many, and acknowledges what is tallied.
     fn weight_of(&self, passed: u32, tally: Tally, acked: bool) -> Weight
-        ensures { (v u : SenderView) (on : ℕ → Bool) (timed : Option ℕ) → StandsFor F.format self.now v → IsAfter v u on passed → IsTallied self.now.items on tally
+        ensures { (v u : SenderView) (on : ℕ → Bool) (timed : Option ℕ) → StandsFor F.format self.now v → IsAfter v u on passed → IsTallied (header_of F.format) self.now.items on tally
             → IfSome timed (λ i. acked ≡ (nat_lt v.cum i && (on (i - v.cum) && not (was_given_up v i)))) → IsWeight F.format v u timed result }
     {
         let newest = self.above_cum(tally.newest);

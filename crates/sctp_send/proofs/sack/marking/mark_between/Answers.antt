@@ -9,7 +9,7 @@ pub loop-at-init : goal.loop-at-init
 loop-at-init c = record {
   items = λ rs capped. timed_none c.args.partial rs c.min-first.result c.args.outstanding.now.items;
   long = refl;
-  room = record { size = refl; capacity = refl };
+  room = record { size = refl; header = refl; capacity = refl };
 }
 
 pub loop-at-preserved : goal.loop-at-preserved
@@ -23,7 +23,7 @@ loop-at-preserved c =
           timed_more c.args.partial rs c.min-first.result c.loop-at.at c.args.outstanding.now.items c.loop-at.outstanding.items c.mark_one.new.outstanding.items (omega arith) is
           (ap (λ (w : OutstandingKept). w.items) (one.items (rs c.loop-at.at) next));
       long = one.long ∙ before.long;
-      room = record { size = one.kept.size ∙ before.room.size; capacity = one.kept.capacity ∙ before.room.capacity };
+      room = record { size = one.kept.size ∙ before.room.size; header = one.kept.header ∙ before.room.header; capacity = one.kept.capacity ∙ before.room.capacity };
     }
 
 pub returns-clause-items : goal.returns-clause-items

@@ -4,7 +4,7 @@ use Rattle.sctp_send.specs.OutstandingFields.{lane_meaning, message_meaning, ent
 use Rattle.sctp_send.specs.inner.Stretching.{entry_bytes}
 use Rattle.sctp_send.specs.declared.kept.message.Message.{Message as MessageFields}
 use Rattle.sctp_send.proofs.kept.WeightLemmas.{bytes_short}
-use Rattle.sctp_send.proofs.kept.stretches.bytes_in.Goals as goal
+use Rattle.sctp_send.proofs.kept.wishes.bytes_in.Goals as goal
 
 pub overflow_cast-result : goal.overflow_cast-result
 overflow_cast-result c =
