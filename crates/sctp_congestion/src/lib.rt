@@ -42,18 +42,20 @@
 //! The other calls read a value, or change one that they name.
 #![tactic(auto)]
 
-mod acknowledged;
 mod control;
 mod estimate;
+mod hearing;
+mod last_sendings;
 mod misses;
+mod news;
 mod pacing;
 mod round_trip;
 mod round_trips;
 
-pub use acknowledged::Acknowledged;
 pub use control::{Allowance, CongestionControl};
 pub use estimate::RttEstimate;
-pub use misses::{Highest, MissIndications};
-pub use pacing::{Pacing, Reply, Weighed};
+pub use hearing::{Reply, Weighed};
+pub use misses::Highest;
+pub use pacing::Pacing;
 pub use round_trip::RoundTrip;
 pub use round_trips::{RoundTrips, TimedChunk};
