@@ -31,7 +31,7 @@ use Rattle.sctp_association.specs.TrafficStands.{TrafficStands}
 use Rattle.sctp_association.specs.MachineStands.{KeepsMachine, MachineStands}
 use Rattle.sctp_association.specs.Drafted.{drafted, IsOf, IsOwn, IsEmpty, PutsAt, IsPacked}
 use Rattle.sctp_association.specs.Sends.{Sends, FillsNone}
-use Rattle.sctp_association.specs.FillsBehind.{FillsBehind}
+use Rattle.sctp_association.specs.FillsBehind.{timers_behind, FillsBehind}
 use Rattle.sctp_association.specs.BuildAnswers.{BuildAnswer}
 use Rattle.sctp_association.specs.declared.state.life.Unjoined.{Unjoined}
 use Rattle.sctp_association.specs.declared.state.life.Association.{Association}
@@ -45,6 +45,7 @@ use Rattle.sctp_association.specs.declared.build.Built.{Built}
 use Rattle.sctp_association.specs.declared.machine.Machine.{Machine}
 use Rattle.sctp_association.proofs.MachineLemmas.{with_traffic, with_pace}
 use Rattle.sctp_association.proofs.PutLemmas.{started_left}
+use Rattle.sctp_association.proofs.OptionLemmas.{unbeating_after}
 use Rattle.sctp_association.proofs.AskLemmas.{unasked}
 use Rattle.sctp_association.proofs.SendsLemmas.{one_control, puts_from_none, sends_none, sends_nothing, sends_behind}
 
@@ -102,7 +103,7 @@ calls_packet e c d old new s put filled configured phase empty due is after star
     sym (ap (λ (x : EndView). started InitAlarm (with_due (record x.due { init = false }) x)) empty.same) ∙ started_left InitAlarm (record m { init = false }) e s starts in
     let one : IsPacked e e.sender e.pace (record { writer = with_chunks old.writer (own_init c d ∷ []); marks = n }) filled = record {
       builds = subst (λ (zs : List ChunkMeaning). Builds e zs (drafted n e)) chunks (subst (λ (y : EndView). Builds e (own_init e.configuration d ∷ []) y) leaves (Calls d phase calls));
-      packet = own_of e _ (record { limit = empty.packet.limit; source = empty.packet.source; destination = empty.packet.destination; tag = empty.packet.tag; sack = empty.packet.sack });
+      packet = own_of e _ (record { options = empty.packet.options; limit = empty.packet.limit; source = empty.packet.source; destination = empty.packet.destination; tag = empty.packet.tag; sack = empty.packet.sack });
       tickets_are = none_numbered filled.tickets e.sender none.tickets;
       sendings = subst (λ (zs : List ChunkMeaning). Sends e zs filled.sendings) chunks (sends_none e (own_init e.configuration d ∷ []) filled (one_control _ refl) none);
     } in
@@ -146,8 +147,11 @@ filled_packet e t g old mid new traffic o filled phase off empty puts fills pace
     let zs = mid.writer.chunks in
     let v = (filled_behind x zs).view in
     let built = Fills t g zs x phase (from_unasked e old zs false x off empty puts.puts) in
+    let ws = (filled_behind x zs).wishes in
+    let went : EndView = record x { timers = timers_behind x zs; sender = v; pace = (sent x zs).pace } in
     let leaves : sent x zs ≡ record (drafted new.marks e) { sender = v; pace = o } =
-    ap (λ (q : Option Pace). record (sent x zs) { pace = q }) (sym paced)
+    unbeating_after ws went empty.packet.options
+    ∙ ap (λ (q : Option Pace). record went { pace = q }) (sym paced)
     ∙ sym (ap (λ (m : Marks). record (drafted m e) { sender = v; pace = o }) fills.marks ∙ ap (λ (f : Alarm → Timer). record x { sender = v; pace = o; timers = f }) fills.timers) in
     record {
       builds = subst (λ (cs : List ChunkMeaning). Builds e cs (record (drafted new.marks e) { sender = v; pace = o })) (sym fills.chunks) (subst (λ (y : EndView). Builds e (zs ++ fragments x zs) y) leaves built);
@@ -195,11 +199,11 @@ answered e s o (Some b) m p filled packed writes size within same counts stands 
 -- ---- what stands for the end meanwhile
 
 pub with_moment : (m : Machine) (v : EndView) (n : ℕ) → KeepsMachine m v → KeepsMachine (record m { moment = n }) (record v { moment = n })
-with_moment m v n k = record { configuration = k.configuration; role = k.role; clock = refl; due = k.due; timers = k.timers; delayed = k.delayed; phase = k.phase; life = k.life; room = k.room; pace = k.pace; unpaced = k.unpaced }
+with_moment m v n k = record { configuration = k.configuration; role = k.role; clock = refl; due = k.due; timers = k.timers; delayed = k.delayed; phase = k.phase; life = k.life; room = k.room; pace = k.pace; unpaced = k.unpaced; options = k.options; beats = k.beats }
 
 -- a receiver that nothing came to has no duplicates to tell
-pub told_fresh : (r : ReceiverView) (b : ℕ) → r ≡ fresh_receiver 0 0 b → sack_sent r ≡ r
-told_fresh r b is = ap sack_sent is ∙ sym is
+pub told_fresh : (r : ReceiverView) (b n : ℕ) → r ≡ fresh_receiver 0 0 b n → sack_sent r ≡ r
+told_fresh r b n is = ap sack_sent is ∙ sym is
 
 pub phase_at : (m : Machine) (x : Unjoined) (v : EndView) → m.life ≡ life.Unjoined x → KeepsMachine m v → v.phase ≡ phase_unjoined x
 phase_at m x v is k = sym k.phase ∙ ap phase_of is

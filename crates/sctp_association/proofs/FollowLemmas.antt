@@ -13,18 +13,19 @@ use Rattle.sctp_model.specs.sender.Words.{some_passes}
 use Rattle.sctp_model.specs.end.Trips.{Timed, was_given_up}
 use Rattle.sctp_model.specs.end.Misses.{Misses, last_sent, first_missed}
 use Rattle.sctp_model.specs.end.Pacing.{Pace, Heard, misses_heard, heard, wait_heard}
-use Rattle.sctp_model.specs.end.EndView.{EndView, Configuration, Alarm, InitAlarm, CookieAlarm, DataAlarm, ShutdownAlarm, AckAlarm, ResetAlarm, Timer, format_for}
+use Rattle.sctp_model.specs.end.EndView.{EndView, Configuration, Alarm, InitAlarm, CookieAlarm, DataAlarm, ShutdownAlarm, AckAlarm, ResetAlarm, BeatAlarm, GuardAlarm, Timer, format_for, waits_of}
 use Rattle.sctp_model.specs.end.Acting.{sack_heard}
 use Rattle.sctp_model.specs.end.Clock.{replaced, with_timer, timer_heard, sender_heard, paced, paced_expiry, renewed, renewed_expiry, after_wait, is_point_past}
 use Rattle.sctp_send.specs.PaceAnswers.{first_in_flight}
 use Rattle.sctp_congestion.specs.Numbers.{is_measured}
 use Rattle.sctp_congestion.specs.Weighs.{Weighs}
 use Rattle.sctp_congestion.specs.declared.pacing.Reply.{Reply}
+use Rattle.sctp_terms.specs.PlainOptions.{HasPlainOptions}
 use Rattle.sctp_association.specs.TimersMean.{timers_meaning, kept_if}
 use Rattle.sctp_association.specs.TrafficStands.{TrafficStands}
 use Rattle.sctp_association.specs.DueStands.{DueStands}
 use Rattle.sctp_association.specs.MachineStands.{KeepsMachine}
-use Rattle.sctp_association.specs.SackLeaves.{IsLeft}
+use Rattle.sctp_association.specs.SackLeaves.{IsLeft, timer_left}
 use Rattle.sctp_association.specs.Weighing.{IsBefore, AreBefore, IsReply, followed}
 use Rattle.sctp_association.specs.declared.peer.pacing.Before.{Before}
 use Rattle.sctp_association.specs.declared.state.life.Association.{Association}
@@ -38,6 +39,7 @@ use Rattle.sctp_association.proofs.MachineLemmas.{at_view, with_timers, with_pac
 use Rattle.sctp_association.proofs.MomentLemmas.{owed_due}
 use Rattle.sctp_association.proofs.HearingLemmas.{sack_counts, counted_in}
 use Rattle.sctp_association.proofs.MeasureLemmas.{asked}
+use Rattle.sctp_association.proofs.OptionLemmas.{counts_always}
 
 -- ---- what is known before
 
@@ -100,6 +102,8 @@ twice_at DataAlarm s t f = refl
 twice_at ShutdownAlarm s t f = refl
 twice_at AckAlarm s t f = refl
 twice_at ResetAlarm s t f = refl
+twice_at BeatAlarm s t f = refl
+twice_at GuardAlarm s t f = refl
 
 paced_some : (v : SenderView) (wait : ℕ) (t : Timer) (x : EndView) (p : Pace) → x.pace ≡ Some p
     → paced v wait t x ≡ record (with_timer DataAlarm (timer_heard (Some p) x.moment x.configuration.least_wait wait v x.sender t) x) {
@@ -142,19 +146,15 @@ follows m a v x t p q traffic s r b rto least flies is k paces (o, own, known, w
 -- ---- a SACK: its data timer is put once
 
 -- a timer that is restarted is restarted whatever its expiry was
-anew_expiry : (now rto : ℕ) (restarts flies : Bool) (o : Option ℕ) → restarts ≡ true → paced_expiry now rto restarts flies o ≡ paced_expiry now rto restarts flies (renewed_expiry now o)
-anew_expiry now rto restarts flies None on = refl
-anew_expiry now rto restarts flies (Some m) on =
-    ap (λ (b : Bool). Some (if b then after_wait now rto else m)) on ∙ sym (ap (λ (b : Bool). Some (if b then after_wait now rto else after_wait now FIRST_WAIT)) on)
+anew_expiry : (first now rto : ℕ) (restarts flies : Bool) (o : Option ℕ) → restarts ≡ true → paced_expiry now rto restarts flies o ≡ paced_expiry now rto restarts flies (renewed_expiry first now o)
+anew_expiry first now rto restarts flies None on = refl
+anew_expiry first now rto restarts flies (Some m) on =
+    ap (λ (b : Bool). Some (if b then after_wait now rto else m)) on ∙ sym (ap (λ (b : Bool). Some (if b then after_wait now rto else after_wait now first)) on)
 
-pub heard_anew : (now rto : ℕ) (restarts flies moved : Bool) (t : Timer) → (moved ≡ true → restarts ≡ true)
-    → record (followed now rto restarts flies t) { repeats = 0 } ≡ followed now rto restarts flies (renewed now moved t)
-heard_anew now rto restarts flies false t anew = refl
-heard_anew now rto restarts flies true t anew = ap (λ (o : Option ℕ). record { wait = rto; repeats = 0; expiry = o }) (anew_expiry now rto restarts flies t.expiry (anew refl))
-
--- the data timer after it, beside the pace
-abbrev timer_left : EndView → SenderView → Timer
-timer_left v u = renewed v.moment (nat_lt v.sender.cum u.cum) (kept_if (unsettled u) (v.timers DataAlarm))
+pub heard_anew : (first now rto : ℕ) (restarts flies moved : Bool) (t : Timer) → (moved ≡ true → restarts ≡ true)
+    → record (followed now rto restarts flies t) { repeats = 0 } ≡ followed now rto restarts flies (renewed first now moved t)
+heard_anew first now rto restarts flies false t anew = refl
+heard_anew first now rto restarts flies true t anew = ap (λ (o : Option ℕ). record { wait = rto; repeats = 0; expiry = o }) (anew_expiry first now rto restarts flies t.expiry (anew refl))
 
 -- the end after it, but for its data timer and its pace
 abbrev rests_left : EndView → SenderView → EndView
@@ -163,11 +163,11 @@ rests_left v u = record v { sender = u; due = record v.due { forward = is_point_
 abbrev paced_left : EndView → SenderView → EndView
 paced_left v u = paced v.sender (v.timers DataAlarm).wait (timer_left v u) (rests_left v u)
 
-heard_left : (v : EndView) (x : SackMeaning) → None ≡ sack_fault v.sender x → sack_heard v x ≡ paced_left v (sack_after v.sender x)
-heard_left v x none =
+heard_left : (v : EndView) (x : SackMeaning) → HasPlainOptions v.configuration → None ≡ sack_fault v.sender x → sack_heard v x ≡ paced_left v (sack_after v.sender x)
+heard_left v x options none =
     let u = sack_taken v.sender x in
-    let t = timer_heard v.pace v.moment v.configuration.least_wait (v.timers DataAlarm).wait v.sender u (timer_left v u) in
-    (λ i. record v {
+    let t = timer_heard v.pace v.moment (waits_of v.configuration) (v.timers DataAlarm).wait v.sender u (timer_left v u) in
+    counts_always v x options ∙ (λ i. record v {
       sender = sender_heard v.pace v.moment v.sender u;
       due = record v.due { forward = is_point_past u };
       timers = λ a. twice_at a (kept_if (unsettled u) (v.timers DataAlarm)) t v.timers i;
@@ -185,6 +185,8 @@ data_at s t DataAlarm = refl
 data_at s t ShutdownAlarm = refl
 data_at s t AckAlarm = refl
 data_at s t ResetAlarm = refl
+data_at s t BeatAlarm = refl
+data_at s t GuardAlarm = refl
 
 again_at : (s : Timers) (t x : Timer) (a : Alarm) → replaced DataAlarm x (timers_meaning s) a ≡ replaced DataAlarm x (timers_meaning (with_data s t)) a
 again_at s t x InitAlarm = refl
@@ -193,6 +195,8 @@ again_at s t x DataAlarm = refl
 again_at s t x ShutdownAlarm = refl
 again_at s t x AckAlarm = refl
 again_at s t x ResetAlarm = refl
+again_at s t x BeatAlarm = refl
+again_at s t x GuardAlarm = refl
 
 pub sack_follows : (m : Machine) (a : Association) (v : EndView) (x : SackMeaning) (p q : Pace) (taken traffic : Traffic) (d : Due) (s : Timers) (l : Acknowledged) (r : Reply) (b : Before)
     (rto least : ℕ) (flies : Bool) → m.life ≡ life.Joined a → KeepsMachine m v → m.pace ≡ Some p → None ≡ sack_fault v.sender x
@@ -203,18 +207,18 @@ pub sack_follows : (m : Machine) (a : Association) (v : EndView) (x : SackMeanin
     → IsReply (heard m.moment v.sender (sack_after v.sender x) p) r → ((h : Heard) → q ≡ h.pace → r.trip ≡ h.trip → r.moved ≡ h.moved → rto ≡ wait_heard least b.rto h)
     → flies ≡ nat_lt 0 (in_flight (heard m.moment v.sender (sack_after v.sender x) p).sender)
     → ((moved : Bool) → (moved ≡ true → r.restarts ≡ true) → timers_meaning s
-    ≡ replaced DataAlarm (followed m.moment rto r.restarts flies (renewed m.moment moved (kept_if l.wanted (timers_meaning m.timers DataAlarm)))) (timers_meaning m.timers))
+    ≡ replaced DataAlarm (followed m.moment rto r.restarts flies (renewed FIRST_WAIT m.moment moved (kept_if l.wanted (timers_meaning m.timers DataAlarm)))) (timers_meaning m.timers))
     → KeepsMachine (record m { life = life.Joined (record a { traffic = traffic }); due = d; pace = Some q; timers = s }) (sack_heard v x)
 sack_follows m a v x p q taken traffic d s l r b rto least flies is k paces none stands left due before waits config pace_is now reply says flown timers =
     let u : SenderView = sack_after v.sender x in
     let moved : Bool = nat_lt v.sender.cum u.cum in
-    let t : Timer = renewed m.moment moved (kept_if l.wanted (timers_meaning m.timers DataAlarm)) in
+    let t : Timer = renewed FIRST_WAIT m.moment moved (kept_if l.wanted (timers_meaning m.timers DataAlarm)) in
     let after : Timers = with_data m.timers t in
     let took = with_traffic m a taken v u v.receiver is k stands refl refl in
     let counted = with_both _ (record v { sender = u }) d _ after _ took (owed_due d v.due _ _ due left.past)
-    (counted_in _ _ _ _ _ _ _ _ _ (λ i y. data_at m.timers t y i) left.wanted refl took.clock took.timers) in
+    (counted_in _ _ _ _ _ _ _ _ _ _ (λ i y. data_at m.timers t y i) left.wanted refl took.clock took.options.first_wait took.timers) in
     let anew = λ (on : moved ≡ true). reply.restarts ∙ ap (λ (c : Bool). c || some_passes (λ i. i == suc u.cum) (first_missed (misses_heard v.sender u p.misses) u)) on in
     let put = timers moved anew ∙ (λ i y. again_at m.timers t (followed m.moment rto r.restarts flies t) y i) in
-    at_view _ _ _ (heard_left v x none)
+    at_view _ _ _ (heard_left v x k.options none)
     (follows _ (record a { traffic = taken }) v (rests_left v u) (timer_left v u) p q traffic s r b rto least flies refl counted paces
     (p, sym k.pace ∙ paces, before, waits ∙ ap (λ (g : Alarm → Timer). (g DataAlarm).wait) k.timers) config pace_is now reply says flown put)

@@ -1,3 +1,4 @@
+pub mod OptionLemmas
 pub mod MachineLemmas
 pub mod ReconfigLemmas
 pub mod ResetLemmas

@@ -2,10 +2,10 @@
 use Rattle.std.proofs.Common.{◌≡◌, ◌∙◌, ℕ, Bool, true, false, ◌&&◌, [], ◌∷◌, Option, None, Result, Ok, Err, IfOk, refl, ap, sym, subst}
 use Rattle.sctp_model.specs.sender.SenderView.{SenderView}
 use Rattle.sctp_model.specs.end.EndView as model
-use Rattle.sctp_model.specs.end.EndView.{EndView, Alarm, InitAlarm, CookieAlarm, DataAlarm, ShutdownAlarm, AckAlarm, ResetAlarm, format_of, format_for}
+use Rattle.sctp_model.specs.end.EndView.{EndView, Alarm, InitAlarm, CookieAlarm, DataAlarm, ShutdownAlarm, AckAlarm, ResetAlarm, BeatAlarm, GuardAlarm, format_of, format_for}
 use Rattle.sctp_model.specs.end.Clock.{is_point_past}
 use Rattle.sctp_model.specs.end.Pacing.{Pace}
-use Rattle.sctp_model.specs.end.Building.{CookieAckSlot, HeartbeatSlot, ErrorSlot, SackSlot, ForwardSlot, AnswerSlot, RequestSlot, ShutdownSlot, ShutdownAckSlot, open_slots, sent}
+use Rattle.sctp_model.specs.end.Building.{CookieAckSlot, HeartbeatSlot, BeatSlot, ErrorSlot, SackSlot, ForwardSlot, AnswerSlot, RequestSlot, ShutdownSlot, ShutdownAckSlot, open_slots, sent}
 use Rattle.sctp_packet.specs.Draft.{Draft}
 use Rattle.sctp_send.specs.declared.fill.Filled.{Filled}
 use Rattle.sctp_values.specs.declared.no_memory.NoMemory.{NoMemory}
@@ -39,11 +39,12 @@ plain_at d w sack fragments = record { writer = w; marks = plain_marks d sack fr
 
 module _ (e : EndView) (d : Due) (plain : IsPlain d e.due) (calm : IsCalm e) where
   front : (w : Draft) (s : Bool) → IsOf e (plain_at d w s false)
-      → PutsAt (CookieAckSlot ∷ HeartbeatSlot ∷ ErrorSlot ∷ []) e (plain_at d w s false) (plain_at d w s false) true
+      → PutsAt (CookieAckSlot ∷ HeartbeatSlot ∷ BeatSlot ∷ ErrorSlot ∷ []) e (plain_at d w s false) (plain_at d w s false) true
   front w s packet =
       let p = plain_at d w s false in
-      joined (CookieAckSlot ∷ []) (HeartbeatSlot ∷ ErrorSlot ∷ []) e p p p true true refl (not_due CookieAckSlot e p plain.cookie_ack packet)
-      (joined (HeartbeatSlot ∷ []) (ErrorSlot ∷ []) e p p p true true refl (not_due HeartbeatSlot e p plain.heartbeat packet) (not_due ErrorSlot e p plain.causes packet))
+      joined (CookieAckSlot ∷ []) (HeartbeatSlot ∷ BeatSlot ∷ ErrorSlot ∷ []) e p p p true true refl (not_due CookieAckSlot e p plain.cookie_ack packet)
+      (joined (HeartbeatSlot ∷ []) (BeatSlot ∷ ErrorSlot ∷ []) e p p p true true refl (not_due HeartbeatSlot e p plain.heartbeat packet)
+      (joined (BeatSlot ∷ []) (ErrorSlot ∷ []) e p p p true true refl (not_due BeatSlot e p plain.beat packet) (not_due ErrorSlot e p plain.causes packet)))
 
   back : (w : Draft) (s : Bool) → IsOf e (plain_at d w s false)
       → PutsAt (ForwardSlot ∷ AnswerSlot ∷ RequestSlot ∷ ShutdownSlot ∷ ShutdownAckSlot ∷ []) e (plain_at d w s false) (plain_at d w s false) true
@@ -60,12 +61,12 @@ module _ (e : EndView) (d : Due) (plain : IsPlain d e.due) (calm : IsCalm e) whe
   all_slots old new s t true packet puts =
       let p = plain_at d old s false in
       let q = plain_at d new t false in
-      joined (CookieAckSlot ∷ HeartbeatSlot ∷ ErrorSlot ∷ []) (SackSlot ∷ ForwardSlot ∷ AnswerSlot ∷ RequestSlot ∷ ShutdownSlot ∷ ShutdownAckSlot ∷ []) e p p q true true refl (front old s packet)
+      joined (CookieAckSlot ∷ HeartbeatSlot ∷ BeatSlot ∷ ErrorSlot ∷ []) (SackSlot ∷ ForwardSlot ∷ AnswerSlot ∷ RequestSlot ∷ ShutdownSlot ∷ ShutdownAckSlot ∷ []) e p p q true true refl (front old s packet)
       (joined (SackSlot ∷ []) (ForwardSlot ∷ AnswerSlot ∷ RequestSlot ∷ ShutdownSlot ∷ ShutdownAckSlot ∷ []) e p q q true true refl puts (back new t puts.packet))
   all_slots old new s t false packet puts =
       let p = plain_at d old s false in
       let q = plain_at d new t false in
-      joined (CookieAckSlot ∷ HeartbeatSlot ∷ ErrorSlot ∷ []) (SackSlot ∷ ForwardSlot ∷ AnswerSlot ∷ RequestSlot ∷ ShutdownSlot ∷ ShutdownAckSlot ∷ []) e p p q true false refl (front old s packet)
+      joined (CookieAckSlot ∷ HeartbeatSlot ∷ BeatSlot ∷ ErrorSlot ∷ []) (SackSlot ∷ ForwardSlot ∷ AnswerSlot ∷ RequestSlot ∷ ShutdownSlot ∷ ShutdownAckSlot ∷ []) e p p q true false refl (front old s packet)
       (cut (SackSlot ∷ []) (ForwardSlot ∷ AnswerSlot ∷ RequestSlot ∷ ShutdownSlot ∷ ShutdownAckSlot ∷ []) e p q false refl puts)
 
 -- fragments behind the SACK
@@ -84,6 +85,8 @@ starts_alone_at true DataAlarm = refl
 starts_alone_at true ShutdownAlarm = refl
 starts_alone_at true AckAlarm = refl
 starts_alone_at true ResetAlarm = refl
+starts_alone_at true BeatAlarm = refl
+starts_alone_at true GuardAlarm = refl
 starts_alone_at false a = refl
 
 pub starts_alone : (b : Bool) → starts_at (fragments_alone b) ≡ with_fragments b (starts_at (fragments_alone false))
@@ -96,6 +99,8 @@ none_start_at DataAlarm = refl
 none_start_at ShutdownAlarm = refl
 none_start_at AckAlarm = refl
 none_start_at ResetAlarm = refl
+none_start_at BeatAlarm = refl
+none_start_at GuardAlarm = refl
 
 pub none_start : starts_at (fragments_alone false) ≡ (λ a. false)
 none_start = λ i a. none_start_at a i
@@ -123,6 +128,7 @@ due_plain d n x s f was now = record {
   cookie_echo = now.cookie_echo ∙ sym was.cookie_echo;
   cookie_ack = now.cookie_ack ∙ sym was.cookie_ack;
   heartbeat = now.heartbeat;
+  beat = now.beat;
   causes = now.causes;
   sack = now.sack;
   forward = now.forward ∙ sym was.forward;
@@ -136,7 +142,7 @@ pub plain_empty : (v : EndView) (moment : ℕ) (d : Due) (w : Draft) → IsFresh
 plain_empty v moment d w fresh due =
     let m = plain_marks d d.sack false in
     record {
-      packet = record { limit = fresh.limit; source = fresh.source; destination = fresh.destination; tag = fresh.tag; sack = λ still. sym due.sack ∙ still };
+      packet = record { options = fresh.options; limit = fresh.limit; source = fresh.source; destination = fresh.destination; tag = fresh.tag; sack = λ still. sym due.sack ∙ still };
       chunks = fresh.chunks;
       same = drafted_same m (record v { moment = moment })
           (due_same m v.due due.init due.cookie_echo due.cookie_ack refl refl due.sack due.forward due.request due.shutdown due.shutdown_ack) due.sack refl none_start;

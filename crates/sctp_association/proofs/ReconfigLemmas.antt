@@ -29,7 +29,7 @@ use Rattle.sctp_association.proofs.MachineLemmas.{with_resets}
 
 -- no request is outstanding
 abbrev pub rests : EndView → EndView
-rests e = with_timer ResetAlarm unused_timer (with_due (record e.due { request = false }) e)
+rests e = with_timer ResetAlarm (unused_timer e.configuration.first_wait) (with_due (record e.due { request = false }) e)
 
 progress_beside : (b : Bool) (e : EndView) (r : ReceiverView) → in_progress b (record e { receiver = r }) ≡ record (in_progress b e) { receiver = r }
 progress_beside true e r = refl

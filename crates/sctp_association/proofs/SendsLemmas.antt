@@ -8,7 +8,7 @@ use Rattle.sctp_model.specs.messages.Format.{Format}
 use Rattle.sctp_model.specs.messages.Framing.{forward_chunk}
 use Rattle.sctp_model.specs.sender.SentChunks.{forward_said, forward_end}
 use Rattle.sctp_model.specs.end.EndView.{EndView, format_of}
-use Rattle.sctp_model.specs.end.Building.{Slot, Wants, EchoCookie, AckCookie, AckHeartbeat, ReportCauses, Acknowledge, PassOn, AnswerReset, AskReset, SayShutdown, AnswerShutdown, once_built, Puts, NoMore, NotDue, Put, IsFull, filled_behind, fragments}
+use Rattle.sctp_model.specs.end.Building.{Slot, Wants, EchoCookie, AckCookie, AckHeartbeat, Beat, ReportCauses, Acknowledge, PassOn, AnswerReset, AskReset, SayShutdown, AnswerShutdown, once_built, Puts, NoMore, NotDue, Put, IsFull, filled_behind, fragments}
 use Rattle.sctp_model.specs.end.Reconfiguring.{asking}
 use Rattle.sctp_model.specs.end.Wearing.{missed_below}
 use Rattle.sctp_send.specs.FillAnswers.{sendings_of}
@@ -27,6 +27,7 @@ wants_control : (e : EndView) (s : Slot) (x : ChunkMeaning) → Wants e s x → 
 wants_control e _ _ (EchoCookie t xs is) = refl
 wants_control e _ _ AckCookie = refl
 wants_control e _ _ (AckHeartbeat info is) = refl
+wants_control e _ _ Beat = refl
 wants_control e _ _ ReportCauses = refl
 wants_control e _ _ (Acknowledge s is) = refl
 wants_control e _ _ PassOn = forward_control (format_of e) e

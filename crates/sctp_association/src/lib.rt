@@ -18,7 +18,7 @@
 //! - **Received chunks.** User data and FORWARD-TSN are processed as the receiver's contract says, an invalid stream is reported (`hear_piece`,
 //!   `hear_forward`). A SACK and the cumulative TSN of a SHUTDOWN are refused for their first fault, or acknowledge, with what that does to the data
 //!   timer and to a FORWARD-TSN that is due (`hear_sack`, `hear_shutdown`). A HEARTBEAT whose value fits a packet, and a SHUTDOWN, are answered (`hear_heartbeat`,
-//!   `answer_shutdown`, `repeat_shutdown_ack`); `abort_with` and `complete` close the endpoint with an ABORT or a SHUTDOWN COMPLETE.
+//!   `answer_shutdown`, `repeat_shutdown_ack`); a HEARTBEAT ACK answers nothing (`hear_heartbeat_ack`); `abort_with` and `complete` close the endpoint with an ABORT or a SHUTDOWN COMPLETE.
 //! - **Stream reset** (RFC 6525, 5). An endpoint that agreed on it resets its outgoing streams (`reset`), makes a request as soon as one is ready, and
 //!   retransmits it until its response arrives, one in progress with its next sequence number (`build`, `on_moment`). A RE-CONFIG acts where stream reset was agreed on and user data is taken: its
 //!   requests at the receiver, its responses at the sender, as one after the other would (`takes_reconfig`, `hear_reconfig`). Each stream that

@@ -13,6 +13,7 @@ ghost use Rattle.sctp_model.specs.messages.Format.{Format};
 ghost use Rattle.sctp_model.specs.sender.SenderView.{SenderView, fresh_sender};
 ghost use Rattle.sctp_model.specs.receiver.ReceiverView.{ReceiverView, fresh_receiver};
 ghost use Rattle.sctp_model.specs.end.EndView.{format_for};
+ghost use Rattle.sctp_send.specs.SenderStands.{plain_limits};
 ghost use Rattle.sctp_association.specs.TrafficStands.{DirectionsStand, TrafficStands};
 
 use sctp_framing::{DataFraming, Framing, IDataFraming};
@@ -56,8 +57,8 @@ impl Traffic {
     ) -> Result<Traffic, NoMemory>
         requires some { 0 < sizes.fragment }
         requires short { sizes.fragment ≤ 1400 }
-        ensures { IfOk result (λ t. TrafficStands t (format_for terms.interleave) (fresh_sender terms.own_tsn terms.outbound sizes.fragment peer_rwnd terms.partial)
-            (fresh_receiver terms.peer_tsn terms.inbound sizes.buffer)) }
+        ensures { IfOk result (λ t. TrafficStands t (format_for terms.interleave) (fresh_sender terms.own_tsn terms.outbound sizes.fragment peer_rwnd terms.partial plain_limits)
+            (fresh_receiver terms.peer_tsn terms.inbound sizes.buffer 0)) }
     {
         if terms.interleave {
             return Ok(Traffic::Interleaved(begun_in(alloc, terms, sizes, peer_rwnd)?));
@@ -85,8 +86,8 @@ fn begun_in<F: Framing>(
 ) -> Result<Directions<F>, NoMemory>
     requires some { 0 < sizes.fragment }
     requires short { sizes.fragment ≤ 1400 }
-    ensures { IfOk result (λ d. DirectionsStand F.format d (fresh_sender terms.own_tsn terms.outbound sizes.fragment peer_rwnd terms.partial)
-        (fresh_receiver terms.peer_tsn terms.inbound sizes.buffer)) }
+    ensures { IfOk result (λ d. DirectionsStand F.format d (fresh_sender terms.own_tsn terms.outbound sizes.fragment peer_rwnd terms.partial plain_limits)
+        (fresh_receiver terms.peer_tsn terms.inbound sizes.buffer 0)) }
 {
     let sender = Sender::new(
         alloc,

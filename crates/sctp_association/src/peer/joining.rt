@@ -4,7 +4,7 @@
 ghost use Rattle.std.specs.Prelude.{◌≡◌, ℕ, List, ◌<◌, ◌+◌, ◌^◌, length, IfOk, OnOk, OnErr};
 ghost use Rattle.sctp_model.specs.sender.SenderView.{fresh_sender};
 ghost use Rattle.sctp_model.specs.receiver.ReceiverView.{fresh_receiver};
-ghost use Rattle.sctp_model.specs.end.EndView.{EndView, format_for};
+ghost use Rattle.sctp_model.specs.end.EndView.{EndView, format_for, send_limits};
 ghost use Rattle.sctp_model.specs.end.EndView as model;
 ghost use Rattle.sctp_model.specs.end.Clock.{timers_in};
 ghost use Rattle.sctp_model.specs.end.Opening.{pace_for, begun, echoing, opened};
@@ -44,6 +44,8 @@ impl Machine {
     pub fn paired(alloc: Global, config: Config, own: Draw, peer: Draw) -> Result<Machine, NoMemory>
         ensures { IfOk result (λ m. MachineStands m (opened config own peer)) }
     {
+        // By the clause of `limit` its options are plain.
+        let _limit = config.limit();
         let terms = Terms::alike(&config, own, peer);
         let traffic = begun_for(alloc, &config, terms, config.buffer())?;
         let pace = pace_for(&config, config.buffer());
@@ -142,9 +144,11 @@ fn begun_for(
     peer_rwnd: u32,
 ) -> Result<Traffic, NoMemory>
     ensures { IfOk result (λ t. TrafficStands t (format_for terms.interleave)
-        (fresh_sender terms.own_tsn terms.outbound config.now.fragment peer_rwnd terms.partial)
-        (fresh_receiver terms.peer_tsn terms.inbound config.now.buffer)) }
+        (fresh_sender terms.own_tsn terms.outbound config.now.fragment peer_rwnd terms.partial (send_limits config.now))
+        (fresh_receiver terms.peer_tsn terms.inbound config.now.buffer config.now.reserve)) }
 {
+    // By the clause of `limit` its options are plain.
+    let _limit = config.limit();
     let sizes = Sizes {
         fragment: config.fragment(),
         buffer: config.buffer(),

@@ -125,14 +125,15 @@ impl Machine {
         }
     }
 
-    /// What follows from an acknowledgement that the sender has taken, once the data timer is set as without a pace. Nothing without one.
+    /// What follows from an acknowledgement that the sender has taken, once the data timer is set as without a pace. Without one the data timer starts, if
+    /// it doesn't run and user data is in flight (RFC 9260, 6.3.2, R4).
     #[inline(always)]
     pub(crate) fn follow(&mut self, before: Option<Before>)
         ensures { (v x : EndView) (t : model.Timer) (s : model.Tags) (g : model.Stage) → AreBefore v x.sender before → x.pace ≡ v.pace → x.phase ≡ model.Open s g
             → MachineStands self.old (with_timer model.DataAlarm t x) → MachineStands self.new (paced v.sender (v.timers model.DataAlarm).wait t x) }
     {
         match before {
-            None => {}
+            None => self.start_flying(),
             Some(before) => self.follow_paced(before),
         }
     }

@@ -25,6 +25,8 @@ pub(crate) struct Acknowledged {
     pub(crate) wanted: bool,
     /// A FORWARD-TSN would skip something (RFC 3758, 3.5).
     pub(crate) past: bool,
+    /// User data is in flight.
+    pub(crate) flies: bool,
 }
 
 impl Traffic {
@@ -77,6 +79,7 @@ fn take_sack<F: Framing>(sender: &mut Sender<F>, sack: &Sack<'_>) -> Result<Ackn
                 moved: before < cum,
                 wanted: sender.unsettled(),
                 past: cum < sender.point(),
+                flies: 0 < sender.in_flight(),
             })
         }
         Err(fault) => Err(fault),

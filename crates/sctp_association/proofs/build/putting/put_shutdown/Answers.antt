@@ -21,5 +21,5 @@ returns c = λ e stands packet.
     let x = c.cumulative-cumulative.result in
     goes_in ShutdownSlot e c.args.packing.now (record m { shutdown = false; starts = c.add.new.self }) _ (Shutdown x) _ c.if-not-packing.false
     (says_cumulative e m x (c.cumulative-cumulative.ensures (format_of e) e.sender e.receiver stands))
-    (started_left ShutdownAlarm (record m { shutdown = false }) e c.add.new.self c.add.ensures)
+    (shutdown_left (record m { shutdown = false }) e c.add.new.self packet.options c.add.ensures)
     (λ still. still) packet c.if-not-branch.false c.in_ok-try_chunk.ensures.answer c.in_ok-try_chunk.ensures.after

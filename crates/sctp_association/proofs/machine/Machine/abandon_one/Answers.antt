@@ -8,12 +8,12 @@ use Rattle.sctp_association.proofs.machine.Machine.abandon_one.Goals as goal
 
 pub returns-in-Unjoined-clause-answer : goal.returns-in-Unjoined-clause-answer
 unfolding MachineStands
-returns-in-Unjoined-clause-answer c = λ v stands. unknown_fresh v.sender _ c.args.ticket.0 (unjoined _ _ v c.in-Unjoined.is stands).sender
+returns-in-Unjoined-clause-answer c = λ v stands. unknown_fresh v.sender _ _ c.args.ticket.0 (unjoined _ _ v c.in-Unjoined.is stands).sender
 
 pub returns-in-Unjoined-clause-step : goal.returns-in-Unjoined-clause-step
 unfolding MachineStands
 returns-in-Unjoined-clause-step c = λ v stands.
-    at_view _ _ _ (ap (λ (s : SenderView). record v { sender = s }) (abandon_fresh v.sender _ c.args.ticket.0 (unjoined _ _ v c.in-Unjoined.is stands).sender)) stands
+    at_view _ _ _ (ap (λ (s : SenderView). record v { sender = s }) (abandon_fresh v.sender _ _ c.args.ticket.0 (unjoined _ _ v c.in-Unjoined.is stands).sender)) stands
 
 pub returns-in-Joined-clause-answer : goal.returns-in-Joined-clause-answer
 unfolding MachineStands

@@ -8,11 +8,11 @@ use Rattle.sctp_association.proofs.machine.Machine.ask_sender.Goals as goal
 
 pub returns-in-Unjoined-clause-step : goal.returns-in-Unjoined-clause-step
 unfolding MachineStands
-returns-in-Unjoined-clause-step c = λ v stands. at_view _ _ _ (ap (λ (s : SenderView). record v { sender = s }) (never_asks v.sender _ (unjoined _ _ v c.in-Unjoined.is stands).sender)) stands
+returns-in-Unjoined-clause-step c = λ v stands. at_view _ _ _ (ap (λ (s : SenderView). record v { sender = s }) (never_asks v.sender _ _ (unjoined _ _ v c.in-Unjoined.is stands).sender)) stands
 
 pub returns-in-Unjoined-clause-before : goal.returns-in-Unjoined-clause-before
 unfolding MachineStands
-returns-in-Unjoined-clause-before c = λ v stands may. absurd (false≢true (sym (never_may v.sender _ (unjoined _ _ v c.in-Unjoined.is stands).sender) ∙ may))
+returns-in-Unjoined-clause-before c = λ v stands may. absurd (false≢true (sym (never_may v.sender _ _ (unjoined _ _ v c.in-Unjoined.is stands).sender) ∙ may))
 
 pub returns-in-Joined-clause-before : goal.returns-in-Joined-clause-before
 unfolding MachineStands

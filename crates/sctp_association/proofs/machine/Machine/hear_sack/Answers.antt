@@ -9,4 +9,4 @@ pub returns-clause-step : goal.returns-clause-step
 unfolding MachineStands
 returns-clause-step c = λ v t g stands phase.
     let free = sym stands.pace ∙ none_there _ (sym c.is_some.ensures ∙ c.if-is_some.false) in
-    heard_unpaced c.count_sack.result _ v (sack_meaning c.args.sack.now) free (c.count_sack.ensures.answer v t g stands phase) (c.count_sack.ensures.step v t g stands phase)
+    heard_unpaced c.count_sack.result _ v (sack_meaning c.args.sack.now) stands.options free (c.count_sack.ensures.answer v t g stands phase) (c.count_sack.ensures.step v t g stands phase)

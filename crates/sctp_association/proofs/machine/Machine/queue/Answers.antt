@@ -6,7 +6,7 @@ use Rattle.sctp_association.proofs.machine.Machine.queue.Goals as goal
 
 pub returns-in-Unjoined-clause-answer : goal.returns-in-Unjoined-clause-answer
 unfolding MachineStands
-returns-in-Unjoined-clause-answer c = λ v stands. refuses_fresh v.sender _ c.args.stream c.args.bytes.items (unjoined _ _ v c.in-Unjoined.is stands).sender
+returns-in-Unjoined-clause-answer c = λ v stands. refuses_fresh v.sender _ _ c.args.stream c.args.bytes.items (unjoined _ _ v c.in-Unjoined.is stands).sender
 
 pub returns-in-Unjoined-clause-step : goal.returns-in-Unjoined-clause-step
 returns-in-Unjoined-clause-step c = λ v stands. stands

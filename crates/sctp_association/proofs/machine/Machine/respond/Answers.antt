@@ -9,7 +9,7 @@ use Rattle.sctp_association.proofs.machine.Machine.respond.Goals as goal
 pub returns-in-Unjoined : goal.returns-in-Unjoined
 unfolding MachineStands
 returns-in-Unjoined c = λ v stands.
-    at_view _ _ _ (ap (λ (s : SenderView). record v { sender = s }) (responded_fresh v.sender _ c.args.number c.args.code (unjoined _ _ v c.in-Unjoined.is stands).sender)) stands
+    at_view _ _ _ (ap (λ (s : SenderView). record v { sender = s }) (responded_fresh v.sender _ _ c.args.number c.args.code (unjoined _ _ v c.in-Unjoined.is stands).sender)) stands
 
 pub returns-in-Joined : goal.returns-in-Joined
 unfolding MachineStands

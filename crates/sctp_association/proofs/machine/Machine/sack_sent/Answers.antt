@@ -9,7 +9,7 @@ use Rattle.sctp_association.proofs.machine.Machine.sack_sent.Goals as goal
 pub returns-in-Unjoined : goal.returns-in-Unjoined
 unfolding MachineStands
 returns-in-Unjoined c = λ v stands.
-    at_view _ _ _ (ap (λ (r : ReceiverView). record v { receiver = r }) (told_fresh v.receiver _ (unjoined _ _ v c.in-Unjoined.is stands).receiver)) stands
+    at_view _ _ _ (ap (λ (r : ReceiverView). record v { receiver = r }) (told_fresh v.receiver _ _ (unjoined _ _ v c.in-Unjoined.is stands).receiver)) stands
 
 pub returns-in-Joined : goal.returns-in-Joined
 unfolding MachineStands

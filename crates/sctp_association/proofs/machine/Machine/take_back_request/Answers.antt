@@ -8,7 +8,7 @@ use Rattle.sctp_association.proofs.machine.Machine.take_back_request.Goals as go
 
 pub returns-in-Unjoined : goal.returns-in-Unjoined
 unfolding MachineStands
-returns-in-Unjoined c = λ v stands may was. absurd (unasked_fresh v.sender _ (unjoined _ _ (record v { sender = asked v.sender }) c.in-Unjoined.is stands).sender)
+returns-in-Unjoined c = λ v stands may was. absurd (unasked_fresh v.sender _ _ (unjoined _ _ (record v { sender = asked v.sender }) c.in-Unjoined.is stands).sender)
 
 pub returns-in-Joined : goal.returns-in-Joined
 unfolding MachineStands

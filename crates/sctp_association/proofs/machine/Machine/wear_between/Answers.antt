@@ -9,7 +9,7 @@ use Rattle.sctp_association.proofs.machine.Machine.wear_between.Goals as goal
 pub returns-in-Unjoined : goal.returns-in-Unjoined
 unfolding MachineStands
 returns-in-Unjoined c = λ v stands.
-    at_view _ _ _ (ap (λ (s : SenderView). record v { sender = s }) (worn_fresh_by (λ i. nat_le c.args.from i && nat_lt i c.args.below) v.sender _ (unjoined _ _ v c.in-Unjoined.is stands).sender)) stands
+    at_view _ _ _ (ap (λ (s : SenderView). record v { sender = s }) (worn_fresh_by (λ i. nat_le c.args.from i && nat_lt i c.args.below) v.sender _ _ (unjoined _ _ v c.in-Unjoined.is stands).sender)) stands
 
 pub returns-in-Joined : goal.returns-in-Joined
 unfolding MachineStands

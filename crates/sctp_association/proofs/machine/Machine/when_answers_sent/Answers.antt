@@ -15,7 +15,7 @@ pub returns-in-Unjoined : goal.returns-in-Unjoined
 unfolding MachineStands
 returns-in-Unjoined c = λ v stands.
     at_view _ _ _ (ap (λ (b : Bool). record v { receiver = answers_left b v.receiver }) c.if-are_due.false
-    ∙ ap (λ (r : ReceiverView). record v { receiver = r }) (answers_fresh v.receiver _ (unjoined _ _ v c.in-Unjoined.is stands).receiver)) stands
+    ∙ ap (λ (r : ReceiverView). record v { receiver = r }) (answers_fresh v.receiver _ _ (unjoined _ _ v c.in-Unjoined.is stands).receiver)) stands
 
 pub returns-in-Joined : goal.returns-in-Joined
 unfolding MachineStands
