@@ -11,7 +11,7 @@ use Rattle.sctp_model.proofs.sender.Bounds.{is_bounded}
 use Rattle.sctp_model.proofs.sender.OwedLaws.{is_windowed}
 use Rattle.sctp_send.specs.SenderKept.{Item, Kept}
 use Rattle.sctp_send.specs.SenderStands.{items_from, Keeps}
-use Rattle.sctp_send.specs.inner.Wishing.{item_chunk, item_chunks}
+use Rattle.sctp_send.specs.inner.Wishing.{item_chunks}
 use Rattle.sctp_send.proofs.KeepLemmas.{kept_length}
 
 -- a header is short
