@@ -1,9 +1,9 @@
 //! The vocabulary that an endpoint and its users share: its configuration, the random values that it needs, its state and how its association
 //! ended, and why a packet or a call is refused.
 //!
-//! Contracts see a [`Config`] as the definitions' `Configuration` (`sctp_model/specs/end/EndView`), which is within its limits
-//! (`IsConfiguration`, `end/Configured`), and which asks for none of the options of waits, HEARTBEATs, memory and checksums (`HasPlainOptions`), and a [`Draw`] as their `Draw`, whose tag isn't 0 (`IsDraw`). What the other types mean in the
-//! definitions is in `specs/Meanings`.
+//! Contracts see a [`Config`] as the definitions' `Configuration` (`sctp_model/specs/end/Settings`), which is within its limits
+//! (`IsConfiguration`, `end/Configured`) and asks for none of the options of waits, HEARTBEATs, memory and checksums (`HasPlainOptions`), and a
+//! [`Draw`] as their `Draw`, whose tag isn't 0 (`IsDraw`). What the other types mean in the definitions is in `specs/Meanings`.
 //!
 //! | public function | what is promised |
 //! |---|---|
