@@ -1,9 +1,9 @@
 -- Congestion control by parts, and that no step changes a chunk's header.
-use Rattle.std.proofs.Common.{◌≡◌, ℕ, Bool, true, false, List, [], ◌∷◌, refl, sym, ap, ◌∙◌}
-use Rattle.std.specs.Prelude.{if◌then◌else◌, nat_lt, nat_le, not, ◌&&◌, ◌||◌, Option, Some, None, option_map, IfSome}
+use Rattle.std.proofs.Common.{◌≡◌, ℕ, Bool, true, false, List, [], ◌∷◌, refl}
+use Rattle.std.specs.Prelude.{if◌then◌else◌, nat_lt, not, ◌&&◌, Option, Some, None}
 use Rattle.sctp_model.specs.sender.Filling.{Wish}
 use Rattle.sctp_model.specs.end.Cubic.{Cubic}
-use Rattle.sctp_model.specs.end.Control.{Control, News, started_slowly, avoided, avoided_cubic, avoided_by, grown, is_in_use, window_after, recovered, unused_burst, bursting, control_heard}
+use Rattle.sctp_model.specs.end.Control.{Control, News, avoided_by, grown, is_in_use, window_after, control_heard}
 use Rattle.sctp_model.specs.end.Control.{recovering, control_expired, with_packet}
 
 -- either of two with this header has it

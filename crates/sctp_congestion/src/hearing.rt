@@ -58,7 +58,7 @@ impl Pacing {
     /// retransmission, and [`Pacing::hear`] is the second step (RFC 9260, 7.2.4). `back` are the indexes that it takes back, for which memory was reserved, and
     /// `last` is the highest index that was sent; if it takes none back, that is not read.
     pub fn notice(&mut self, said: Highest, last: u64, back: &[u64])
-        ensures { (f : Format) (v u : SenderView) (p : Pace) → PaceStands f v.cum self.old p → v.cum ≤ u.cum → AreHighest v u said
+        ensures { (f : Format) (cum : ℕ) (v u : SenderView) (p : Pace) → PaceStands f cum self.old p → cum ≤ u.cum → AreHighest v u said
             → AreTakenBack v u (pace_room self.old) last back.now → PaceStands f u.cum self.new (record p { misses = misses_heard v u p.misses }) }
     {
         self.misses.hear(said, last, back);

@@ -1,6 +1,6 @@
 //! Miss indications, and Fast Recovery.
 
-ghost use Rattle.std.specs.Prelude.{◌≡◌, ℕ, ◌<◌, ◌≤◌, Bool, true, List, if◌then◌else◌, nat_lt, is_some, IfSome, OnOk};
+ghost use Rattle.std.specs.Prelude.{◌≡◌, ℕ, ◌<◌, ◌≤◌, suc, Bool, List, if◌then◌else◌, nat_lt, nat_le, ◌&&◌, is_some, IfSome, OnOk};
 ghost use Rattle.sctp_model.specs.sender.SenderView.{SenderView};
 ghost use Rattle.sctp_model.specs.end.Misses as model;
 ghost use Rattle.sctp_model.specs.end.Misses.{Misses, fresh_misses, expired_misses, noticed, last_sent, recovery_at, recovery_begun, misses_sent, goes_again};
@@ -86,7 +86,8 @@ impl MissIndications {
 
     /// Each index that has its third miss indication is below this one.
     pub(crate) fn missed_end(&self) -> u64
-        ensures { (cum : ℕ) (m : Misses) → MissesStand cum self.now m → (i : ℕ) → cum < i → model.is_missed m i ≡ true → i < result }
+        ensures { (cum from : ℕ) (m : Misses) → MissesStand cum self.now m → from ≤ suc cum → (i : ℕ) → cum < i
+            → model.is_missed m i ≡ (nat_le from i && (nat_lt i result && nat_lt (went_at self.now.went i) self.now.third)) }
     {
         self.third.max(self.went.early_end())
     }
@@ -122,7 +123,7 @@ impl MissIndications {
     /// Counts an acknowledgement that the sender has taken, which takes these indexes back; `last` is the highest one that was sent. Fast Recovery may be
     /// over by it (RFC 9260, 7.2.4).
     pub(crate) fn hear(&mut self, said: Highest, last: u64, back: &[u64])
-        ensures { (v u : SenderView) (m : Misses) → MissesStand v.cum self.old m → v.cum ≤ u.cum → AreHighest v u said
+        ensures { (cum : ℕ) (v u : SenderView) (m : Misses) → MissesStand cum self.old m → cum ≤ u.cum → AreHighest v u said
             → AreTakenBack v u (self.old.went.room) last back.now → MissesStand u.cum self.new (misses_heard v u m) }
     {
         self.pass(said.cum);

@@ -1,6 +1,6 @@
 //! Round trips, misses and congestion control of one association together.
 
-ghost use Rattle.std.specs.Prelude.{◌≡◌, ℕ, ◌<◌, ◌≤◌, true, false, nat_lt, Bool, List, length, OnOk};
+ghost use Rattle.std.specs.Prelude.{◌≡◌, ℕ, ◌<◌, ◌≤◌, suc, false, nat_le, nat_lt, ◌&&◌, List, length, OnOk};
 ghost use Rattle.sctp_model.specs.messages.Format.{Format};
 ghost use Rattle.sctp_model.specs.messages.Framing.{header_of};
 ghost use Rattle.sctp_model.specs.sender.SenderView.{SenderView};
@@ -82,9 +82,11 @@ impl Pacing {
         self.misses.is_missed(index)
     }
 
-    /// Each index that has its third miss indication is below this one.
+    /// Each index that has its third miss indication is below this one: those above the cumulative TSN are the ones that [`Pacing::is_missed`] tells from
+    /// it, or from the next one on, up to here.
     pub fn missed_end(&self) -> u64
-        ensures { (f : Format) (cum : ℕ) (p : Pace) → PaceStands f cum self.now p → (i : ℕ) → cum < i → is_missed p.misses i ≡ true → i < result }
+        ensures { (f : Format) (cum from : ℕ) (p : Pace) → PaceStands f cum self.now p → from ≤ suc cum → (i : ℕ) → cum < i
+            → is_missed p.misses i ≡ (nat_le from i && (nat_lt i result && missed_at self.now i)) }
     {
         self.misses.missed_end()
     }
@@ -159,4 +161,10 @@ impl Pacing {
     {
         self.misses.trim();
     }
+
+    // law
+    /// What it stands for at a sender, it stands for once the cumulative TSN has moved.
+    pub fn stays(&self)
+        ensures { (f : Format) (cum later : ℕ) (p : Pace) → PaceStands f cum self.now p → cum ≤ later → PaceStands f later self.now p }
+    {}
 }

@@ -1,4 +1,4 @@
-use Rattle.std.proofs.Common.{◌≡◌, ◌-◌, refl, sym, subst, arith}
+use Rattle.std.proofs.Common.{◌-◌, refl, sym, subst, arith}
 use Rattle.sctp_congestion.specs.Went.{WentKept, WentStands}
 use Rattle.sctp_congestion.proofs.WentLemmas.{set_kept}
 use Rattle.sctp_congestion.proofs.last_sendings.LastSendings.set.Goals as goal

@@ -8,11 +8,11 @@ use Rattle.sctp_congestion.proofs.MissLemmas.{taken_back_by, newest_by}
 use Rattle.sctp_congestion.proofs.misses.MissIndications.hear.Goals as goal
 
 pub returns : goal.returns
-returns c = λ v u m stands more highest back.
+returns c = λ cum v u m stands more highest back.
     let at = highest.cum in
     let m' : Misses = record m { exit = recovery_at u.cum m.exit } in
     let passed : MissesStand u.cum c.pass.new.self m' =
-    subst (λ (n : ℕ). MissesStand n c.pass.new.self (record m { exit = recovery_at n m.exit })) at (c.pass.ensures.step v.cum m stands (omega (arith, at, more))) in
+    subst (λ (n : ℕ). MissesStand n c.pass.new.self (record m { exit = recovery_at n m.exit })) at (c.pass.ensures.step cum m stands (omega (arith, at, more))) in
     let those : AreThose (is_taken_back v u) u.cum c.pass.new.self.went.room c.args.back.now =
     record { those = back.those.those; within = within_more c.args.self.now.went.room c.pass.new.self.went.room c.args.back.now c.pass.ensures.room back.those.within } in
     let taken = taken_back_by v u c.args.self.now.went.room c.args.last c.args.back.now c.set_all.new.self m' back (c.set_all.ensures u.cum m' (is_taken_back v u) passed those) in

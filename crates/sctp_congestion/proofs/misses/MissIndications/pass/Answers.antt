@@ -1,4 +1,4 @@
-use Rattle.std.proofs.Common.{◌≡◌, ℕ, sym, ap, ◌∙◌, subst}
+use Rattle.std.proofs.Common.{sym, ap, ◌∙◌, subst}
 use Rattle.sctp_model.specs.end.Misses.{recovery_at}
 use Rattle.sctp_congestion.specs.PaceStands.{MissesKept, MissesStand}
 use Rattle.sctp_congestion.proofs.misses.MissIndications.pass.Goals as goal

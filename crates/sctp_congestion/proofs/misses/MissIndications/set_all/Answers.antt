@@ -1,4 +1,4 @@
-use Rattle.std.proofs.Common.{◌≡◌, sym, subst}
+use Rattle.std.proofs.Common.{sym, subst}
 use Rattle.sctp_congestion.specs.Went.{AreThose}
 use Rattle.sctp_congestion.specs.PaceStands.{MissesKept, MissesStand}
 use Rattle.sctp_congestion.proofs.WentLemmas.{went_tested}

@@ -1,7 +1,7 @@
-use Rattle.std.proofs.Common.{◌≡◌, ℕ, Bool, subst, sym, ap, ◌∙◌}
-use Rattle.std.specs.Prelude.{Option, None, option_map, if◌then◌else◌}
+use Rattle.std.proofs.Common.{Bool, subst, sym, ap, ◌∙◌}
+use Rattle.std.specs.Prelude.{None, option_map, if◌then◌else◌}
 use Rattle.sctp_model.specs.end.Trips.{Trips}
-use Rattle.sctp_model.specs.end.Control.{Control, control_expired}
+use Rattle.sctp_model.specs.end.Control.{control_expired}
 use Rattle.sctp_model.specs.end.Pacing.{is_probe}
 use Rattle.sctp_congestion.specs.PaceStands.{PaceKept, PaceStands}
 use Rattle.sctp_congestion.proofs.ControlLemmas.{header_expired}

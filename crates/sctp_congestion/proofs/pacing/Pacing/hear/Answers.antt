@@ -4,8 +4,8 @@ use Rattle.sctp_model.specs.messages.Framing.{header_of}
 use Rattle.sctp_model.specs.sender.SenderView.{SenderView}
 use Rattle.sctp_model.specs.end.Trips.{Trips, Smoothed, still_timed, trip_told, with_trip}
 use Rattle.sctp_model.specs.end.Misses.{Misses, first_missed, recovery_begun}
-use Rattle.sctp_model.specs.end.Control.{Control, News, control_heard}
-use Rattle.sctp_model.specs.end.Pacing.{Pace, misses_heard, news}
+use Rattle.sctp_model.specs.end.Control.{News, control_heard}
+use Rattle.sctp_model.specs.end.Pacing.{misses_heard, news}
 use Rattle.sctp_congestion.specs.Numbers.{is_measured}
 use Rattle.sctp_congestion.specs.Weighs.{remarked}
 use Rattle.sctp_congestion.specs.Says.{Says}

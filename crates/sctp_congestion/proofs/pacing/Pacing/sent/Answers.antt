@@ -1,9 +1,8 @@
-use Rattle.std.proofs.Common.{◌≡◌, ℕ, sym, ap, ◌∙◌, subst}
+use Rattle.std.proofs.Common.{ℕ, sym, ap, ◌∙◌, subst}
 use Rattle.std.specs.Prelude.{option_map}
-use Rattle.sctp_model.specs.messages.Framing.{header_of}
 use Rattle.sctp_model.specs.end.Trips.{timed_from}
 use Rattle.sctp_model.specs.end.Misses.{misses_sent, goes_again}
-use Rattle.sctp_model.specs.end.Control.{Control, with_packet, chunk_flight}
+use Rattle.sctp_model.specs.end.Control.{with_packet, chunk_flight}
 use Rattle.sctp_congestion.specs.Went.{AreThose}
 use Rattle.sctp_congestion.specs.PaceStands.{PaceKept, PaceStands, MissesStand, pace_room}
 use Rattle.sctp_congestion.proofs.ControlLemmas.{header_sent}

@@ -1,4 +1,4 @@
-use Rattle.std.proofs.Common.{◌≡◌, subst, sym}
+use Rattle.std.proofs.Common.{subst, sym}
 use Rattle.sctp_congestion.specs.PaceStands.{PaceKept, PaceStands}
 use Rattle.sctp_congestion.proofs.pacing.Pacing.trim.Goals as goal
 
