@@ -1,5 +1,5 @@
 -- `build`: a packet that is begun empty, filled by the slots that are due and then with user data, is the specification's next packet, and leaves its view.
-use Rattle.std.proofs.Common.{◌≡◌, ◌∙◌, ℕ, ◌≤◌, Bool, true, false, not, List, [], ◌∷◌, ◌++◌, map, Option, Some, None, Result, Ok, Err, IfOk, OnErr, IfSome, MatchOption, length, refl, ap, sym, subst, arith}
+use Rattle.std.proofs.Common.{◌≡◌, ◌∙◌, ℕ, ◌≤◌, Bool, true, false, not, List, [], ◌∷◌, ◌++◌, map, Option, Some, None, option_map, Result, Ok, Err, IfOk, OnErr, IfSome, MatchOption, length, refl, ap, sym, subst, arith}
 use Rattle.std.specs.Prelude.{unwrap_or, OnOk}
 use Rattle.std.proofs.Math.Seq.{drop-length}
 use Rattle.std.specs.declared.vec.Vec.{Vec}
@@ -13,7 +13,7 @@ use Rattle.sctp_model.specs.receiver.SackMade.{sack_sent}
 use Rattle.sctp_model.specs.end.EndView as model
 use Rattle.sctp_model.specs.end.EndView.{EndView, Configuration, Draw, Alarm, InitAlarm, Timer, has_association, format_of, format_for}
 use Rattle.sctp_model.specs.end.Clock.{started}
-use Rattle.sctp_model.specs.end.Pacing.{Pace}
+use Rattle.sctp_model.specs.end.Pacing.{Pace, sent_pace}
 use Rattle.sctp_model.specs.end.Reconfiguring.{asking}
 use Rattle.sctp_model.specs.end.Closing.{with_due}
 use Rattle.sctp_model.specs.end.Opening.{own_init}
@@ -24,12 +24,14 @@ use Rattle.sctp_packet.specs.Draft.{Draft, packet_of, after_try, with_chunks}
 use Rattle.sctp_packet.specs.PacketBytes.{WritesPacket}
 use Rattle.sctp_values.specs.declared.ticket.Ticket.{Ticket}
 use Rattle.sctp_send.specs.declared.fill.Filled.{Filled}
+use Rattle.sctp_congestion.specs.PaceStands.{PacesStand}
+use Rattle.sctp_congestion.specs.declared.pacing.Pacing.{Pacing}
 use Rattle.sctp_association.specs.Asks.{asks}
 use Rattle.sctp_association.specs.StartsMean.{starts_at, with_start}
 use Rattle.sctp_association.specs.PhaseMeans.{phase_unjoined, phase_of}
 use Rattle.sctp_association.specs.TrafficStands.{TrafficStands}
 use Rattle.sctp_association.specs.MachineStands.{KeepsMachine, MachineStands}
-use Rattle.sctp_association.specs.Drafted.{drafted, IsOf, IsOwn, IsEmpty, PutsAt, IsPacked}
+use Rattle.sctp_association.specs.Drafted.{drafted, IsOf, IsOwn, IsEmpty, PutsAt, IsPacked, IsWhole}
 use Rattle.sctp_association.specs.Sends.{Sends, FillsNone}
 use Rattle.sctp_association.specs.FillsBehind.{timers_behind, FillsBehind}
 use Rattle.sctp_association.specs.BuildAnswers.{BuildAnswer}
@@ -43,7 +45,7 @@ use Rattle.sctp_association.specs.declared.build.packing.Marks.{Marks}
 use Rattle.sctp_association.specs.declared.build.packing.Packing.{Packing}
 use Rattle.sctp_association.specs.declared.build.Built.{Built}
 use Rattle.sctp_association.specs.declared.machine.Machine.{Machine}
-use Rattle.sctp_association.proofs.MachineLemmas.{with_traffic, with_pace}
+use Rattle.sctp_association.proofs.MachineLemmas.{joined, phase_joined}
 use Rattle.sctp_association.proofs.PutLemmas.{started_left}
 use Rattle.sctp_association.proofs.OptionLemmas.{unbeating_after}
 use Rattle.sctp_association.proofs.AskLemmas.{unasked}
@@ -160,12 +162,18 @@ filled_packet e t g old mid new traffic o filled phase off empty puts fills pace
       sendings = sends_behind e zs new.writer.chunks filled.sendings (unasked e off) (puts_from_none _ _ _ _ _ (from_unasked e old zs false x off empty puts.puts)) fills.chunks fills.sendings_are;
     }
 
-pub fills_packet : {E : Type 0} (r : Result Filled E) (e : EndView) (t : model.Tags) (g : model.Stage) (old mid new : Packing) (room : Bool) (traffic : Traffic) (o : Option Pace)
+pub fills_packet : {E : Type 0} (r : Result Filled E) (e : EndView) (t : model.Tags) (g : model.Stage) (old mid new : Packing) (room : Bool) (traffic : Traffic) (q : Option Pacing)
     → e.phase ≡ model.Open t g → asks e ≡ false → IsEmpty e old → room ≡ true → PutsAt open_slots e old mid room → IfOk r (λ filled. FillsBehind e mid new traffic filled)
-    → OnOk r (o ≡ (sent (drafted mid.marks e) mid.writer.chunks).pace) → IfOk r (λ filled. (s : SenderView) × IsPacked e s o new filled × TrafficStands traffic (format_of e) s e.receiver)
-fills_packet (Ok filled) e t g old mid new room traffic o phase off empty is puts fills paced =
-    (_, filled_packet e t g old mid new traffic o filled phase off empty (subst (PutsAt open_slots e old mid) is puts) fills paced, fills.traffic_stands)
-fills_packet (Err failed) e t g old mid new room traffic o phase off empty is puts fills paced = fills
+    → OnOk r (PacesStand (format_of e) (filled_behind (drafted mid.marks e) mid.writer.chunks).view.cum q (sent (drafted mid.marks e) mid.writer.chunks).pace) → IfOk r (IsWhole e traffic q new)
+fills_packet (Ok filled) e t g old mid new room traffic q phase off empty is puts fills paced = record {
+  sender = (filled_behind (drafted mid.marks e) mid.writer.chunks).view;
+  after = (sent (drafted mid.marks e) mid.writer.chunks).pace;
+  packed = filled_packet e t g old mid new traffic (sent (drafted mid.marks e) mid.writer.chunks).pace filled phase off empty (subst (PutsAt open_slots e old mid) is puts) fills refl;
+  traffic_stands = fills.traffic_stands;
+  pace_stands = paced;
+  unpaced = λ none. ap (λ (o : Option Pace). option_map (sent_pace e.moment e.sender (filled_behind (drafted mid.marks e) mid.writer.chunks).view (filled_behind (drafted mid.marks e) mid.writer.chunks).wishes) o) none;
+}
+fills_packet (Err failed) e t g old mid new room traffic q phase off empty is puts fills paced = fills
 
 -- what is so anyway is so where there is a result
 pub on_ok : {A E : Type 0} (P : Type 0) (r : Result A E) → P → OnOk r P
@@ -211,48 +219,57 @@ phase_at m x v is k = sym k.phase ∙ ap phase_of is
 pub stays_unjoined : (m : Machine) (x : Unjoined) (v : EndView) → m.life ≡ life.Unjoined x → KeepsMachine m v → KeepsMachine (record m { life = life.Unjoined x }) v
 stays_unjoined m x v is k = subst (λ (h : Life). KeepsMachine (record m { life = h }) v) is k
 
+-- a packet that leaves sender and pace as they were
+pub whole_so : (e : EndView) (p : Packing) (filled : Filled) (traffic : Traffic) (q : Option Pacing) → IsPacked e e.sender e.pace p filled
+    → TrafficStands traffic (format_of e) e.sender e.receiver → PacesStand (format_of e) e.sender.cum q e.pace → IsWhole e traffic q p filled
+whole_so e p filled traffic q packed stands paces = record { sender = e.sender; after = e.pace; packed = packed; traffic_stands = stands; pace_stands = paces; unpaced = λ none. none }
+
 -- where a call may run out of memory: the end as it was
-pub with_end : {E : Type 0} (r : Result Filled E) (e v : EndView) (p : Packing) (m : Machine) → IfOk r (λ filled. IsPacked e e.sender e.pace p filled)
-    → KeepsMachine m (record v { sender = e.sender; pace = e.pace }) → m.pace ≡ e.pace
-    → IfOk r (λ filled. (s : SenderView) × IsPacked e s m.pace p filled × KeepsMachine m (record v { sender = s; pace = m.pace }))
-with_end (Ok filled) e v p m packed stands same = (
-  e.sender,
-  subst (λ (o : Option Pace). IsPacked e e.sender o p filled) (sym same) packed,
-  subst (λ (o : Option Pace). KeepsMachine m (record v { sender = e.sender; pace = o })) (sym same) stands,
-)
-with_end (Err failed) e v p m packed stands same = packed
+pub with_end : {E : Type 0} (r : Result Filled E) (e v : EndView) (p : Packing) (m : Machine) → IfOk r (λ filled. IsPacked e e.sender e.pace p filled) → KeepsMachine m (record v { sender = e.sender; pace = e.pace })
+    → IfOk r (λ filled. (s : SenderView) × (o : Option Pace) × IsPacked e s o p filled × KeepsMachine m (record v { sender = s; pace = o }))
+with_end (Ok filled) e v p m packed stands = (e.sender, e.pace, packed, stands)
+with_end (Err failed) e v p m packed stands = packed
 
 -- the traffic as it was
-pub with_traffic_kept : {E : Type 0} (r : Result Filled E) (e : EndView) (p : Packing) (traffic : Traffic) → IfOk r (λ filled. IsPacked e e.sender e.pace p filled)
-    → TrafficStands traffic (format_of e) e.sender e.receiver → (o : Option Pace) → o ≡ e.pace
-    → IfOk r (λ filled. (s : SenderView) × IsPacked e s o p filled × TrafficStands traffic (format_of e) s e.receiver)
-with_traffic_kept (Ok filled) e p traffic packed stands o same = (e.sender, subst (λ (q : Option Pace). IsPacked e e.sender q p filled) (sym same) packed, stands)
-with_traffic_kept (Err failed) e p traffic packed stands o same = packed
+pub with_traffic_kept : {E : Type 0} (r : Result Filled E) (e : EndView) (p : Packing) (traffic : Traffic) (q : Option Pacing) → IfOk r (λ filled. IsPacked e e.sender e.pace p filled)
+    → TrafficStands traffic (format_of e) e.sender e.receiver → PacesStand (format_of e) e.sender.cum q e.pace → IfOk r (IsWhole e traffic q p)
+with_traffic_kept (Ok filled) e p traffic q packed stands paces = whole_so e p filled traffic q packed stands paces
+with_traffic_kept (Err failed) e p traffic q packed stands paces = packed
 
--- the end with its sender gone on
-pub on_traffic : (m : Machine) (a b : Association) (v : EndView) (x : SenderView) → m.life ≡ life.Joined a → KeepsMachine m v → b ≡ record a { traffic = b.traffic }
-    → TrafficStands b.traffic (format_for v.terms.interleave) x v.receiver → KeepsMachine (record m { life = life.Joined b }) (record v { sender = x })
-on_traffic m a b v x is k kept stands =
-    subst (λ (h : Association). KeepsMachine (record m { life = life.Joined h }) (record v { sender = x })) (sym kept) (with_traffic m a b.traffic v x v.receiver is k stands refl refl)
+-- the end with its sender and its pace gone on
+with_both : (m : Machine) (a b : Association) (v : EndView) (x : SenderView) (q : Option Pacing) (o : Option Pace) → m.life ≡ life.Joined a → KeepsMachine m v
+    → TrafficStands b.traffic (format_for v.terms.interleave) x v.receiver → PacesStand (format_for v.terms.interleave) x.cum q o → (v.pace ≡ None → o ≡ None)
+    → KeepsMachine (record m { life = life.Joined (record a { traffic = b.traffic }); pace = q }) (record v { sender = x; pace = o })
+with_both m a b v x q o is k stands paces none = record {
+  configuration = k.configuration;
+  role = k.role;
+  clock = k.clock;
+  due = k.due;
+  timers = k.timers;
+  delayed = k.delayed;
+  phase = phase_joined m a v is k;
+  life = record { terms = (joined m a v is k).terms; traffic = stands; buffer = (joined m a v is k).buffer; answers = (joined m a v is k).answers };
+  room = k.room;
+  pace = paces;
+  unpaced = λ off. none (k.unpaced off);
+  options = k.options;
+  beats = k.beats;
+}
 
--- without fast retransmit it has no pace still
-unpaced_still : (m : Machine) (v : EndView) (o : Option Pace) → KeepsMachine m v → (m.pace ≡ None → o ≡ None) → v.configuration.fast_retransmit ≡ false → o ≡ None
-unpaced_still m v o k none off = none (k.pace ∙ k.unpaced off)
+pub with_traffic_and_pace : (m : Machine) (a b : Association) (v : EndView) (x : SenderView) (q : Option Pacing) (o : Option Pace) → m.life ≡ life.Joined a → KeepsMachine m v
+    → b ≡ record a { traffic = b.traffic } → TrafficStands b.traffic (format_for v.terms.interleave) x v.receiver → PacesStand (format_for v.terms.interleave) x.cum q o → (v.pace ≡ None → o ≡ None)
+    → KeepsMachine (record m { life = life.Joined b; pace = q }) (record v { sender = x; pace = o })
+with_traffic_and_pace m a b v x q o is k kept stands paces none =
+    subst (λ (h : Association). KeepsMachine (record m { life = life.Joined h; pace = q }) (record v { sender = x; pace = o })) (sym kept) (with_both m a b v x q o is k stands paces none)
 
--- with its pace gone on, too
-pub with_traffic_and_pace : (m : Machine) (a b : Association) (v : EndView) (x : SenderView) (o : Option Pace) → m.life ≡ life.Joined a → KeepsMachine m v → b ≡ record a { traffic = b.traffic }
-    → (m.pace ≡ None → o ≡ None) → TrafficStands b.traffic (format_for v.terms.interleave) x v.receiver → KeepsMachine (record m { life = life.Joined b; pace = o }) (record v { sender = x; pace = o })
-with_traffic_and_pace m a b v x o is k kept none stands = with_pace _ (record v { sender = x }) o (on_traffic m a b v x is k kept stands) (unpaced_still m v o k none)
+pub with_sender : {E : Type 0} (r : Result Filled E) (v : EndView) (n : ℕ) (p : Packing) (m : Machine) (a b : Association) (q : Option Pacing) → m.life ≡ life.Joined a → KeepsMachine m v
+    → b ≡ record a { traffic = b.traffic } → IfOk r (IsWhole (record v { moment = n }) b.traffic q p)
+    → IfOk r (λ filled. (x : SenderView) × (o : Option Pace) × IsPacked (record v { moment = n }) x o p filled × KeepsMachine (record m { life = life.Joined b; pace = q }) (record v { sender = x; pace = o }))
+with_sender (Ok filled) v n p m a b q is k kept w = (w.sender, w.after, w.packed, with_traffic_and_pace m a b v w.sender q w.after is k kept w.traffic_stands w.pace_stands w.unpaced)
+with_sender (Err failed) v n p m a b q is k kept w = w
 
-pub with_sender : {E : Type 0} (r : Result Filled E) (e v : EndView) (p : Packing) (m : Machine) (a b : Association) (o : Option Pace) → m.life ≡ life.Joined a → KeepsMachine m v
-    → b ≡ record a { traffic = b.traffic } → (m.pace ≡ None → o ≡ None)
-    → IfOk r (λ filled. (x : SenderView) × IsPacked e x o p filled × TrafficStands b.traffic (format_for v.terms.interleave) x v.receiver)
-    → IfOk r (λ filled. (x : SenderView) × IsPacked e x o p filled × KeepsMachine (record m { life = life.Joined b; pace = o }) (record v { sender = x; pace = o }))
-with_sender (Ok filled) e v p m a b o is k kept none packed = (packed.0, packed.1, with_traffic_and_pace m a b v packed.0 o is k kept none packed.2)
-with_sender (Err failed) e v p m a b o is k kept none packed = packed
-
-pub still_stands : {A E : Type 0} (r : Result A E) (v : EndView) (m : Machine) (a b : Association) (o : Option Pace) → m.life ≡ life.Joined a → KeepsMachine m v → b ≡ record a { traffic = b.traffic }
-    → OnErr r (o ≡ m.pace) → OnErr r (TrafficStands b.traffic (format_for v.terms.interleave) v.sender v.receiver) → OnErr r (KeepsMachine (record m { life = life.Joined b; pace = o }) v)
-still_stands (Ok x) v m a b o is k kept same stands = tt
-still_stands (Err failed) v m a b o is k kept same stands =
-    subst (λ (q : Option Pace). KeepsMachine (record m { life = life.Joined b; pace = q }) v) (sym same) (on_traffic m a b v v.sender is k kept stands)
+pub still_stands : {A E : Type 0} (r : Result A E) (v : EndView) (m : Machine) (a b : Association) (q : Option Pacing) → m.life ≡ life.Joined a → KeepsMachine m v → b ≡ record a { traffic = b.traffic }
+    → OnErr r (PacesStand (format_for v.terms.interleave) v.sender.cum q v.pace) → OnErr r (TrafficStands b.traffic (format_for v.terms.interleave) v.sender v.receiver)
+    → OnErr r (KeepsMachine (record m { life = life.Joined b; pace = q }) v)
+still_stands (Ok x) v m a b q is k kept paces stands = tt
+still_stands (Err failed) v m a b q is k kept paces stands = with_traffic_and_pace m a b v v.sender q v.pace is k kept stands paces (λ none. none)

@@ -35,6 +35,7 @@ use Rattle.sctp_association.specs.declared.traffic.acknowledging.Acknowledged.{A
 use Rattle.sctp_association.specs.declared.state.due.Due.{Due}
 use Rattle.sctp_association.specs.declared.time.timers.Timers.{Timers}
 use Rattle.sctp_association.specs.declared.machine.Machine.{Machine}
+use Rattle.sctp_association.proofs.CumLemmas.{sack_rises}
 use Rattle.sctp_association.proofs.MachineLemmas.{at_view, with_timers, with_pace, with_traffic, with_both}
 use Rattle.sctp_association.proofs.MomentLemmas.{owed_due}
 use Rattle.sctp_association.proofs.HearingLemmas.{sack_counts, counted_in}
@@ -214,7 +215,7 @@ sack_follows m a v x p q taken traffic d s l r b rto least flies is k paces none
     let moved : Bool = nat_lt v.sender.cum u.cum in
     let t : Timer = renewed FIRST_WAIT m.moment moved (kept_if l.wanted (timers_meaning m.timers DataAlarm)) in
     let after : Timers = with_data m.timers t in
-    let took = with_traffic m a taken v u v.receiver is k stands refl refl in
+    let took = with_traffic m a taken v u v.receiver is k stands (sack_rises v.sender x) refl refl in
     let counted = with_both _ (record v { sender = u }) d _ after _ took (owed_due d v.due _ _ due left.past)
     (counted_in _ _ _ _ _ _ _ _ _ _ (λ i y. data_at m.timers t y i) left.wanted refl took.clock took.options.first_wait took.timers) in
     let anew = λ (on : moved ≡ true). reply.restarts ∙ ap (λ (c : Bool). c || some_passes (λ i. i == suc u.cum) (first_missed (misses_heard v.sender u p.misses) u)) on in

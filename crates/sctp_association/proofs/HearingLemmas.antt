@@ -41,6 +41,7 @@ use Rattle.sctp_association.specs.declared.state.life.Association.{Association}
 use Rattle.sctp_association.specs.declared.state.life.Life.TheVariants as life
 use Rattle.sctp_association.specs.declared.traffic.Traffic.{Traffic}
 use Rattle.sctp_association.specs.declared.machine.Machine.{Machine}
+use Rattle.sctp_association.proofs.CumLemmas.{no_lower}
 use Rattle.sctp_association.proofs.MachineLemmas.{at_view, with_traffic}
 use Rattle.sctp_association.proofs.ReportLemmas.{HasRoom}
 use Rattle.sctp_association.proofs.OptionLemmas.{counts_always}
@@ -63,7 +64,7 @@ pub piece_taken : (m : Machine) (a : Association) (s : Traffic) (v : EndView) (p
     → IfOk r (λ b. (t : ReceiverView) × PieceTaken (format_of v) v.receiver p (answer_of b) t
     × KeepsMachine (record m { life = life.Joined (record a { traffic = s }) }) (record v { receiver = t }))
 piece_taken m a s v p (Ok b) is k stay (t, took, stands) =
-    (t, took, with_traffic m a s v v.sender t is k stands (piece_keeps_buffer _ v.receiver p _ t took) (stay.piece _ v.receiver p _ t took))
+    (t, took, with_traffic m a s v v.sender t is k stands (no_lower v.sender.cum) (piece_keeps_buffer _ v.receiver p _ t took) (stay.piece _ v.receiver p _ t took))
 piece_taken m a s v p (Err why) is k stay took = tt
 
 pub forward_taken : (m : Machine) (a : Association) (s : Traffic) (v : EndView) (p : ForwardMeaning) (r : Result ForwardAnswer NoMemory) → m.life ≡ life.Joined a → KeepsMachine m v → ResetsStay
@@ -71,13 +72,13 @@ pub forward_taken : (m : Machine) (a : Association) (s : Traffic) (v : EndView) 
     → IfOk r (λ b. (t : ReceiverView) × ForwardTaken (format_of v) v.receiver p (forward_answer_of b) t
     × KeepsMachine (record m { life = life.Joined (record a { traffic = s }) }) (record v { receiver = t }))
 forward_taken m a s v p (Ok b) is k stay (t, took, stands) =
-    (t, took, with_traffic m a s v v.sender t is k stands (forward_keeps_buffer _ v.receiver p _ t took) (stay.forward _ v.receiver p _ t took))
+    (t, took, with_traffic m a s v v.sender t is k stands (no_lower v.sender.cum) (forward_keeps_buffer _ v.receiver p _ t took) (stay.forward _ v.receiver p _ t took))
 forward_taken m a s v p (Err why) is k stay took = tt
 
 pub untaken : {A : Type 0} (m : Machine) (a : Association) (s : Traffic) (v : EndView) (r : Result A NoMemory) → m.life ≡ life.Joined a → KeepsMachine m v
     → OnErr r (TrafficStands s (format_of v) v.sender v.receiver) → OnErr r (KeepsMachine (record m { life = life.Joined (record a { traffic = s }) }) v)
 untaken m a s v (Ok b) is k stands = tt
-untaken m a s v (Err why) is k stands = with_traffic m a s v v.sender v.receiver is k stands refl refl
+untaken m a s v (Err why) is k stands = with_traffic m a s v v.sender v.receiver is k stands (no_lower v.sender.cum) refl refl
 
 -- the causes that wait are those from before the chunk came
 pub causes_came : (v : EndView) (r : ReceiverView) (p : PieceMeaning) (a : taken.PieceAnswer) → piece_causes (record v { receiver = r }) p a ≡ piece_causes v p a

@@ -1,7 +1,8 @@
 -- `begin`, `echo`, `paired`: an endpoint with the terms, sender and receiver of an association stands for the view that the specification begins with.
-use Rattle.std.proofs.Common.{◌≡◌, ◌∙◌, ℕ, false, List, refl, sym, ap, subst}
-use Rattle.std.specs.Prelude.{Bool, Option, None, ◌-◌, [], Result, IfOk}
+use Rattle.std.proofs.Common.{◌≡◌, ◌∙◌, ℕ, true, false, List, refl, sym, ap, subst}
+use Rattle.std.specs.Prelude.{Bool, Option, None, Some, ◌-◌, [], Result, IfOk}
 use Rattle.sctp_model.specs.messages.Format.{Format}
+use Rattle.sctp_model.specs.messages.Framing.{header_of}
 use Rattle.sctp_model.specs.sender.SenderView.{SendLimits, fresh_sender}
 use Rattle.sctp_model.specs.receiver.ReceiverView.{fresh_receiver}
 use Rattle.sctp_model.specs.end.EndView.{Alarm, Configuration, EndView, format_for, send_limits}
@@ -13,6 +14,8 @@ use Rattle.sctp_model.specs.end.Pacing.{Pace, fresh_pace}
 use Rattle.sctp_model.specs.end.Opening.{joined, pace_for}
 use Rattle.sctp_opening.specs.Terms.{terms_meaning}
 use Rattle.sctp_terms.specs.PlainOptions.{HasPlainOptions}
+use Rattle.sctp_congestion.specs.PaceStands.{PaceKept, PaceStands, PacesStand}
+use Rattle.sctp_congestion.specs.declared.pacing.Pacing.{Pacing}
 use Rattle.sctp_send.specs.SenderStands.{plain_limits}
 use Rattle.sctp_association.specs.TimersMean.{timers_meaning}
 use Rattle.sctp_association.specs.PhaseMeans.{phase_in}
@@ -45,12 +48,24 @@ begins_so r f own outbound peer inbound n b rwnd partial c options fragment buff
     (subst (λ (k : ℕ). Begun c.fragment plain_limits k 0) buffer (subst (λ (m : ℕ). Begun m plain_limits b 0) fragment begins)))
 
 -- without fast retransmit it has no pace
-pub unpaced : (c : Configuration) (rwnd : ℕ) → c.fast_retransmit ≡ false → pace_for c rwnd ≡ None
-unpaced c rwnd off = ap (λ (b : Bool). when b (fresh_pace c.congestion_control (c.limit - size_of_packet []) rwnd)) off
+pub unpaced : (c : Configuration) (header rwnd : ℕ) → c.fast_retransmit ≡ false → pace_for c header rwnd ≡ None
+unpaced c header rwnd off = ap (λ (b : Bool). when b (fresh_pace c.congestion_control c.growth c.cubic header (c.limit - size_of_packet []) rwnd)) off
+
+pub unpaced_so : (f : Format) (c : Configuration) (header rwnd : ℕ) → c.fast_retransmit ≡ false → PacesStand f 0 None (pace_for c header rwnd)
+unpaced_so f c header rwnd off = subst (λ (o : Option Pace). PacesStand f 0 None o) (sym (unpaced c header rwnd off)) tt
+
+-- with it it has a new one
+pub paced_so : (f : Format) (c : Configuration) (q : PaceKept) (controls : Bool) (header size rwnd : ℕ) → HasPlainOptions c → c.fast_retransmit ≡ true → controls ≡ c.congestion_control
+    → header ≡ header_of f → size ≡ c.limit - size_of_packet [] → PaceStands f 0 q (fresh_pace controls 1 false header size rwnd) → PacesStand f 0 (Some q) (pace_for c (header_of f) rwnd)
+paced_so f c q controls header size rwnd options on controlled headed sized stands =
+    let is : Some (fresh_pace controls 1 false header size rwnd) ≡ pace_for c (header_of f) rwnd =
+    (λ i. Some (fresh_pace (controlled i) (sym options.growth i) (sym options.cubic i) (headed i) (sized i) rwnd))
+    ∙ sym (ap (λ (b : Bool). when b (fresh_pace c.congestion_control c.growth c.cubic (header_of f) (c.limit - size_of_packet []) rwnd)) on) in
+    subst (λ (o : Option Pace). PacesStand f 0 (Some q) o) is stands
 
 -- the end joins, in this phase and with this due
-pub joined_there : (m : Machine) (v : EndView) (a : Association) (d : Due) (s : Timers) (p : Option Pace) (x : model.Terms) (rwnd : ℕ) (h : model.Phase) (y : model.Due) → KeepsMachine m v
-    → p ≡ pace_for m.config rwnd → terms_meaning a.terms ≡ x → phase_in a.tags a.progress ≡ h → DueStands d y → timers_meaning s ≡ timers_in h (timers_meaning m.timers) → Begins a m.config rwnd
+pub joined_there : (m : Machine) (v : EndView) (a : Association) (d : Due) (s : Timers) (p : Option Pacing) (x : model.Terms) (rwnd : ℕ) (h : model.Phase) (y : model.Due) → KeepsMachine m v
+    → PacesStand (format_for a.terms.interleave) 0 p (pace_for m.config (header_of (format_for a.terms.interleave)) rwnd) → terms_meaning a.terms ≡ x → phase_in a.tags a.progress ≡ h → DueStands d y → timers_meaning s ≡ timers_in h (timers_meaning m.timers) → Begins a m.config rwnd
     → KeepsMachine (record m { due = d; timers = s; life = life.Joined a; pace = p }) (record (turned h (joined x rwnd v)) { due = y })
 joined_there m v a d s p x rwnd h y k paced terms phase due timers begins =
     rw (← terms) (record {
@@ -63,8 +78,8 @@ joined_there m v a d s p x rwnd h y k paced terms phase due timers begins =
       phase = phase;
       life = record { terms = refl; traffic = subst (λ (c : Configuration). Begins a c rwnd) k.configuration begins; buffer = refl; answers = λ off. refl };
       room = k.room;
-      pace = paced ∙ ap (λ (c : Configuration). pace_for c rwnd) k.configuration;
-      unpaced = unpaced v.configuration rwnd;
+      pace = subst (λ (c : Configuration). PacesStand (format_for a.terms.interleave) 0 p (pace_for c (header_of (format_for a.terms.interleave)) rwnd)) k.configuration paced;
+      unpaced = unpaced v.configuration (header_of (format_for a.terms.interleave)) rwnd;
       options = k.options;
       beats = k.beats;
     })

@@ -1,3 +1,4 @@
+pub mod CumLemmas
 pub mod OptionLemmas
 pub mod MachineLemmas
 pub mod ReconfigLemmas

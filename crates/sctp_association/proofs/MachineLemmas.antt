@@ -14,6 +14,8 @@ use Rattle.sctp_model.specs.numbers.Limits.{FIRST_WAIT}
 use Rattle.sctp_model.specs.end.Clock.{at_moment, is_home, stopped, timers_in, turned, closed}
 use Rattle.sctp_terms.specs.Meanings.{end_meaning}
 use Rattle.sctp_terms.specs.declared.life.End.{End}
+use Rattle.sctp_congestion.specs.PaceStands.{PacesStand}
+use Rattle.sctp_congestion.specs.declared.pacing.Pacing.{Pacing}
 use Rattle.sctp_association.specs.TimersMean.{timers_meaning, resting, open_timers}
 use Rattle.sctp_association.specs.StageMeans.{tags_meaning, stage_meaning}
 use Rattle.sctp_association.specs.PhaseMeans.{phase_in, phase_of, phase_unjoined}
@@ -33,6 +35,7 @@ use Rattle.sctp_association.specs.declared.traffic.Traffic.{Traffic}
 use Rattle.sctp_association.specs.declared.time.timers.Timers.{Timers}
 use Rattle.sctp_association.specs.declared.state.due.Due.{Due}
 use Rattle.sctp_association.specs.declared.machine.Machine.{Machine}
+use Rattle.sctp_association.proofs.CumLemmas.{later_pace, expiry_stays}
 
 -- the view is another, which is equal
 pub at_view : (m : Machine) (v w : EndView) → v ≡ w → KeepsMachine m w → KeepsMachine m v
@@ -65,8 +68,9 @@ pub with_room : (m : Machine) (v : EndView) (room : Vec ℕ Global) → KeepsMac
 with_room m v room k within = record { configuration = k.configuration; role = k.role; clock = k.clock; due = k.due; timers = k.timers; delayed = k.delayed; phase = k.phase; life = k.life; room = within; pace = k.pace; unpaced = k.unpaced; options = k.options; beats = k.beats }
 
 -- the pace
-pub with_pace : (m : Machine) (v : EndView) (p : Option Pace) → KeepsMachine m v → (v.configuration.fast_retransmit ≡ false → p ≡ None) → KeepsMachine (record m { pace = p }) (record v { pace = p })
-with_pace m v p k unasked = record { configuration = k.configuration; role = k.role; clock = k.clock; due = k.due; timers = k.timers; delayed = k.delayed; phase = k.phase; life = k.life; room = k.room; pace = refl; unpaced = unasked; options = k.options; beats = k.beats }
+pub with_pace : (m : Machine) (v : EndView) (q : Option Pacing) (p : Option Pace) → KeepsMachine m v → PacesStand (format_for v.terms.interleave) v.sender.cum q p
+    → (v.configuration.fast_retransmit ≡ false → p ≡ None) → KeepsMachine (record m { pace = q }) (record v { pace = p })
+with_pace m v q p k paces unasked = record { configuration = k.configuration; role = k.role; clock = k.clock; due = k.due; timers = k.timers; delayed = k.delayed; phase = k.phase; life = k.life; room = k.room; pace = paces; unpaced = unasked; options = k.options; beats = k.beats }
 
 -- ---- terms, sender and receiver
 
@@ -84,11 +88,11 @@ phase_unjoined_at m x v is k = subst (λ h. phase_of h ≡ v.phase) is k.phase
 pub phase_joined : (m : Machine) (a : Association) (v : EndView) → m.life ≡ life.Joined a → KeepsMachine m v → phase_in a.tags a.progress ≡ v.phase
 phase_joined m a v is k = subst (λ h. phase_of h ≡ v.phase) is k.phase
 
--- other traffic, in which responses wait only where streams may be reset
+-- other traffic, in which responses wait only where streams may be reset; CUM doesn't fall
 pub with_resets : (m : Machine) (a : Association) (s : Traffic) (v : EndView) (x : SenderView) (y : ReceiverView) → m.life ≡ life.Joined a → KeepsMachine m v
-    → TrafficStands s (format_for v.terms.interleave) x y → y.buffer ≡ v.receiver.buffer → (v.terms.reset ≡ false → y.resets.answers ≡ [])
+    → TrafficStands s (format_for v.terms.interleave) x y → v.sender.cum ≤ x.cum → y.buffer ≡ v.receiver.buffer → (v.terms.reset ≡ false → y.resets.answers ≡ [])
     → KeepsMachine (record m { life = life.Joined (record a { traffic = s }) }) (record v { sender = x; receiver = y })
-with_resets m a s v x y is k stands same unasked = record {
+with_resets m a s v x y is k stands up same unasked = record {
   configuration = k.configuration;
   role = k.role;
   clock = k.clock;
@@ -98,22 +102,22 @@ with_resets m a s v x y is k stands same unasked = record {
   phase = phase_joined m a v is k;
   life = record { terms = (joined m a v is k).terms; traffic = stands; buffer = same ∙ (joined m a v is k).buffer; answers = unasked };
   room = k.room;
-  pace = k.pace;
+  pace = later_pace (format_for v.terms.interleave) v.sender.cum x.cum m.pace v.pace up k.pace;
   unpaced = k.unpaced;
   options = k.options;
   beats = k.beats;
 }
 
 pub with_traffic : (m : Machine) (a : Association) (s : Traffic) (v : EndView) (x : SenderView) (y : ReceiverView) → m.life ≡ life.Joined a → KeepsMachine m v
-    → TrafficStands s (format_for v.terms.interleave) x y → y.buffer ≡ v.receiver.buffer → y.resets ≡ v.receiver.resets
+    → TrafficStands s (format_for v.terms.interleave) x y → v.sender.cum ≤ x.cum → y.buffer ≡ v.receiver.buffer → y.resets ≡ v.receiver.resets
     → KeepsMachine (record m { life = life.Joined (record a { traffic = s }) }) (record v { sender = x; receiver = y })
-with_traffic m a s v x y is k stands same unreset = with_resets m a s v x y is k stands same (λ off. ap (λ (z : Incoming). z.answers) unreset ∙ (joined m a v is k).answers off)
+with_traffic m a s v x y is k stands up same unreset = with_resets m a s v x y is k stands up same (λ off. ap (λ (z : Incoming). z.answers) unreset ∙ (joined m a v is k).answers off)
 
 pub with_expired : (m : Machine) (a : Association) (s : Traffic) (v : EndView) (now : ℕ) → m.life ≡ life.Joined a → KeepsMachine m v → now ≡ v.moment
     → TrafficStands s (format_for v.terms.interleave) (expired v.sender now) v.receiver
     → KeepsMachine (record m { life = life.Joined (record a { traffic = s }) }) (record v { sender = expired v.sender v.moment })
 with_expired m a s v now is k clock stands =
-    with_traffic m a s v (expired v.sender v.moment) v.receiver is k (subst (λ (n : ℕ). TrafficStands s (format_for v.terms.interleave) (expired v.sender n) v.receiver) clock stands) refl refl
+    with_traffic m a s v (expired v.sender v.moment) v.receiver is k (subst (λ (n : ℕ). TrafficStands s (format_for v.terms.interleave) (expired v.sender n) v.receiver) clock stands) (expiry_stays v.sender v.moment) refl refl
 
 -- a sender that was never used stays so
 pub expired_fresh : (s : SenderView) (f : ℕ) (l : SendLimits) (now : ℕ) → s ≡ fresh_sender 0 0 f 0 false l → expired s now ≡ s

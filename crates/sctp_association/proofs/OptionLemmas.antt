@@ -7,7 +7,7 @@ use Rattle.sctp_model.specs.receiver.PieceTaken.{is_misnumbered}
 use Rattle.sctp_model.specs.sender.SenderView.{SendLimits}
 use Rattle.sctp_model.specs.sender.Filling.{Wish}
 use Rattle.sctp_model.specs.sender.SackTaken.{sack_taken}
-use Rattle.sctp_model.specs.end.EndView.{EndView, Configuration, Due, Beats, no_beats, Alarm, InitAlarm, CookieAlarm, DataAlarm, ShutdownAlarm, AckAlarm, ResetAlarm, BeatAlarm, GuardAlarm, Timer, send_limits, format_of}
+use Rattle.sctp_model.specs.end.EndView.{EndView, Configuration, Due, Beats, no_beats, Alarm, InitAlarm, CookieAlarm, DataAlarm, ShutdownAlarm, AckAlarm, ResetAlarm, BeatAlarm, GuardAlarm, Timer, send_limits, waits_of, format_of}
 use Rattle.sctp_model.specs.end.Clock.{replaced, with_timer, may_go_on, paced}
 use Rattle.sctp_model.specs.end.Closing.{hears}
 use Rattle.sctp_model.specs.end.Acting.{is_refused, is_in_vain, timer_acked, sack_heard}
@@ -16,6 +16,7 @@ use Rattle.sctp_model.specs.end.Building.{most_blocks}
 use Rattle.sctp_model.specs.end.UserCalls.{is_update, updating}
 use Rattle.sctp_model.proofs.PacedEnds.{put_beat_back, unanswered}
 use Rattle.sctp_terms.specs.PlainOptions.{HasPlainOptions}
+use Rattle.sctp_congestion.specs.Waits.{plain_waits}
 use Rattle.sctp_send.specs.SenderStands.{plain_limits}
 use Rattle.sctp_association.specs.TimersMean.{alarm_meaning, most_repeats}
 use Rattle.sctp_association.specs.Acknowledges.{rests_after, timer_after}
@@ -32,6 +33,10 @@ goes_on Fragments v o = ap (nat_lt (v.timers DataAlarm).repeats) o.repeats
 goes_on Shutdown v o = ap (nat_lt (v.timers ShutdownAlarm).repeats) o.repeats
 goes_on ShutdownAck v o = ap (nat_lt (v.timers AckAlarm).repeats) o.repeats
 goes_on Reset v o = ap (nat_lt (v.timers ResetAlarm).repeats) o.repeats
+
+-- the bounds of its RTO
+pub waits_are : (c : Configuration) → HasPlainOptions c → waits_of c ≡ plain_waits c.least_wait
+waits_are c o = λ i. record { first = o.first_wait i; least = c.least_wait; longest = o.longest_wait i }
 
 -- ---- HEARTBEATs
 

@@ -28,7 +28,7 @@ use Rattle.sctp_association.specs.declared.build.packing.Packing.{Packing}
 use Rattle.sctp_association.proofs.RoomLemmas.{some_count}
 use Rattle.sctp_association.proofs.DrainedLemmas.{nothing_fills}
 
-pub none_there : (o : Option Pace) → is_some o ≡ false → o ≡ None
+pub none_there : {A : Type 0} (o : Option A) → is_some o ≡ false → o ≡ None
 none_there None is = refl
 none_there (Some p) is = absurd (cc)
 

@@ -29,6 +29,7 @@ use Rattle.sctp_association.specs.declared.traffic.Traffic.{Traffic}
 use Rattle.sctp_association.specs.declared.state.life.Unjoined.{Unjoined}
 use Rattle.sctp_association.specs.declared.state.life.Association.{Association}
 use Rattle.sctp_association.specs.declared.state.life.Life.TheVariants as life
+use Rattle.sctp_association.proofs.CumLemmas.{no_lower}
 use Rattle.sctp_association.proofs.MachineLemmas.{joined, unjoined, with_traffic, with_resets}
 
 -- ---- before an association
@@ -100,8 +101,8 @@ pub told_stands : (m : Machine) (a : Association) (s : Traffic) (v : EndView) (o
     ((reset_there v.receiver ≡ None) × TrafficStands s (format_for v.terms.interleave) v.sender v.receiver)
     (λ t. (reset_there v.receiver ≡ Some t.stream) × (t.count ≡ old_waiting v.receiver t.stream) × TrafficStands s (format_for v.terms.interleave) v.sender (told_of v.receiver t.stream))
     → KeepsMachine (record m { life = life.Joined (record a { traffic = s }) }) (told_view v o)
-told_stands m a s v None is k h = with_traffic m a s v v.sender v.receiver is k h.1 refl refl
-told_stands m a s v (Some t) is k h = with_resets m a s v v.sender (told_of v.receiver t.stream) is k h.2 refl (joined m a v is k).answers
+told_stands m a s v None is k h = with_traffic m a s v v.sender v.receiver is k h.1 (no_lower v.sender.cum) refl refl
+told_stands m a s v (Some t) is k h = with_resets m a s v v.sender (told_of v.receiver t.stream) is k h.2 (no_lower v.sender.cum) refl (joined m a v is k).answers
 
 -- ---- the request that waits
 
@@ -121,5 +122,5 @@ asked_some s (Some q) h = sym (ap is_some h.waits)
 pub begun_stands : (m : Machine) (a : Association) (s : Traffic) (v : EndView) (stream : ℕ) (r : Result (Unit {0}) NoMemory) → m.life ≡ life.Joined a → KeepsMachine m v
     → OnOk r (TrafficStands s (format_for v.terms.interleave) (resetting v.sender stream) v.receiver)
     → OnOk r (KeepsMachine (record m { life = life.Joined (record a { traffic = s }) }) (record v { sender = resetting v.sender stream }))
-begun_stands m a s v stream (Ok u) is k stands = with_traffic m a s v (resetting v.sender stream) v.receiver is k stands refl refl
+begun_stands m a s v stream (Ok u) is k stands = with_traffic m a s v (resetting v.sender stream) v.receiver is k stands (no_lower v.sender.cum) refl refl
 begun_stands m a s v stream (Err why) is k stands = tt

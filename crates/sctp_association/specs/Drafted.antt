@@ -15,6 +15,8 @@ use Rattle.sctp_model.specs.end.Building.{Slot, Puts, Builds, tag_to}
 use Rattle.sctp_packet.specs.Draft.{Draft, has_room, after_try}
 use Rattle.sctp_send.specs.declared.fill.Filled.{Filled}
 use Rattle.sctp_terms.specs.PlainOptions.{HasPlainOptions}
+use Rattle.sctp_congestion.specs.PaceStands.{PacesStand}
+use Rattle.sctp_congestion.specs.declared.pacing.Pacing.{Pacing}
 use Rattle.sctp_association.specs.StartsMean.{starts_at, started_from}
 use Rattle.sctp_association.specs.Asks.{asks}
 use Rattle.sctp_association.specs.DueStands.{DueStands}
@@ -138,6 +140,15 @@ pub record IsPacked (e : EndView) (s : SenderView) (o : Option Pace) (p : Packin
   pub packet : IsOwn e p
   pub tickets_are : map (λ t. t.0) filled.tickets.items ≡ newly_numbered e.sender s
   pub sendings : Sends e p.writer.chunks filled.sendings
+
+-- The packet is whole, and this traffic and this pace stand for what it leaves of the end's; without a pace there is none then.
+pub record IsWhole (e : EndView) (traffic : Traffic) (pace : Option Pacing) (p : Packing) (filled : Filled) : Type 0 where
+  pub sender : SenderView
+  pub after : Option Pace
+  pub packed : IsPacked e sender after p filled
+  pub traffic_stands : TrafficStands traffic (format_of e) sender e.receiver
+  pub pace_stands : PacesStand (format_of e) sender.cum pace after
+  pub unpaced : e.pace ≡ None → after ≡ None
 
 -- ---- where the chunks come from
 

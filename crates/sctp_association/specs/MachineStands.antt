@@ -7,6 +7,7 @@ use Rattle.sctp_model.specs.end.EndView.{EndView, Configuration, send_limits, Te
 use Rattle.sctp_model.specs.end.EndView as model
 use Rattle.sctp_cookie.specs.Seals.{IsUnder}
 use Rattle.sctp_terms.specs.PlainOptions.{HasPlainOptions}
+use Rattle.sctp_congestion.specs.PaceStands.{PacesStand}
 use Rattle.sctp_association.specs.TimersMean.{timers_meaning}
 use Rattle.sctp_opening.specs.Terms.{terms_meaning}
 use Rattle.sctp_association.specs.PhaseMeans.{phase_of}
@@ -55,7 +56,7 @@ pub record KeepsMachine (m : Machine) (v : EndView) : Type 0 where
   pub phase : phase_of m.life ≡ v.phase
   pub life : LifeStands m.life v.configuration v.terms v.sender v.receiver
   pub room : vec_capacity m.room ≤ v.configuration.limit
-  pub pace : m.pace ≡ v.pace
+  pub pace : PacesStand (format_for v.terms.interleave) v.sender.cum m.pace v.pace
   pub unpaced : v.configuration.fast_retransmit ≡ false → v.pace ≡ None
   pub options : HasPlainOptions v.configuration
   pub beats : v.beats ≡ no_beats

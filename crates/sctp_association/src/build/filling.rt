@@ -1,7 +1,7 @@
 //! What the sender puts into a packet: FORWARD-TSN, and user data after all control chunks (RFC 9260, 6.1 and 6.3.2; RFC 3758, 3.5; RFC 8260, 2.2
 //! and 2.3.1).
 
-ghost use Rattle.std.specs.Prelude.{◌≡◌, ◌≤◌, ◌&&◌, nat_lt, length, None, map, IfOk, OnOk, OnErr};
+ghost use Rattle.std.specs.Prelude.{◌≡◌, ◌≤◌, ◌&&◌, ℕ, Option, nat_lt, length, map, IfOk, OnOk, OnErr};
 ghost use Rattle.sctp_model.specs.numbers.Limits.{LEAST_PACKET, GREATEST_PACKET};
 ghost use Rattle.sctp_model.specs.messages.Format.{Format};
 ghost use Rattle.sctp_model.specs.sender.SenderView.{SenderView};
@@ -13,6 +13,8 @@ ghost use Rattle.sctp_model.specs.end.Clock.{is_point_past};
 ghost use Rattle.sctp_model.specs.end.Building.{room_behind, filled_behind, sent};
 ghost use Rattle.sctp_packet.specs.Draft.{room_in, with_chunks, has_room, after_try};
 ghost use Rattle.sctp_model.specs.end.Wearing.{missed_below};
+ghost use Rattle.sctp_model.specs.end.Pacing.{Pace};
+ghost use Rattle.sctp_congestion.specs.PaceStands.{PacesStand};
 ghost use Rattle.sctp_send.specs.SenderStands.{StandsFor};
 ghost use Rattle.sctp_send.specs.FillAnswers.{sendings_of};
 ghost use Rattle.sctp_association.specs.Sends.{FillsNone};
@@ -182,13 +184,13 @@ pub(crate) fn fill_behind(
     moment: u64,
     packing: &mut Packing,
 ) -> Result<Filled, NoMemory>
-    ensures filled { (e : EndView) → TrafficStands traffic.old (format_of e) e.sender e.receiver → pace.old ≡ e.pace → moment ≡ e.moment → IsOf e packing.old
+    ensures filled { (e : EndView) → TrafficStands traffic.old (format_of e) e.sender e.receiver → PacesStand (format_of e) e.sender.cum pace.old e.pace → moment ≡ e.moment → IsOf e packing.old
         → IfOk result (λ filled. FillsBehind e packing.old packing.new traffic.new filled) }
-    ensures paced { (e : EndView) → TrafficStands traffic.old (format_of e) e.sender e.receiver → pace.old ≡ e.pace → moment ≡ e.moment → IsOf e packing.old
-        → OnOk result (pace.new ≡ (sent (drafted packing.old.marks e) packing.old.writer.chunks).pace) }
+    ensures paced { (e : EndView) → TrafficStands traffic.old (format_of e) e.sender e.receiver → PacesStand (format_of e) e.sender.cum pace.old e.pace → moment ≡ e.moment → IsOf e packing.old
+        → OnOk result (PacesStand (format_of e) (filled_behind (drafted packing.old.marks e) packing.old.writer.chunks).view.cum pace.new
+            (sent (drafted packing.old.marks e) packing.old.writer.chunks).pace) }
     ensures memory { (f : Format) (s : SenderView) (r : ReceiverView) → TrafficStands traffic.old f s r → OnErr result (TrafficStands traffic.new f s r) }
-    ensures kept { OnErr result (pace.new ≡ pace.old) }
-    ensures unpaced { pace.old ≡ None → pace.new ≡ None }
+    ensures kept { (f : Format) (cum : ℕ) (o : Option Pace) → PacesStand f cum pace.old o → OnErr result (PacesStand f cum pace.new o) }
 {
     let fragments = fill_by(alloc, traffic, pace, moment, &mut packing.writer)?;
     start_fragments(&mut packing.marks.starts, fragments.some);

@@ -1,13 +1,14 @@
 //! User data of a packet as far as the pace of its endpoint allows: the congestion window, the limit of bursts, and the chunk that is timed (RFC 9260, 6.1,
 //! 6.3.1 and 7.2).
 
-ghost use Rattle.std.specs.Prelude.{◌≡◌, ◌≤◌, None, Some, IfOk, OnOk, OnErr};
+ghost use Rattle.std.specs.Prelude.{◌≡◌, ◌≤◌, ℕ, Option, Some, IfOk, OnOk, OnErr};
 ghost use Rattle.sctp_model.specs.messages.Format.{Format};
 ghost use Rattle.sctp_model.specs.sender.SenderView.{SenderView};
 ghost use Rattle.sctp_model.specs.receiver.ReceiverView.{ReceiverView};
 ghost use Rattle.sctp_model.specs.end.EndView.{EndView, format_of};
-ghost use Rattle.sctp_model.specs.end.Pacing.{room_paced};
-ghost use Rattle.sctp_model.specs.end.Building.{sent};
+ghost use Rattle.sctp_model.specs.end.Pacing.{Pace, room_paced};
+ghost use Rattle.sctp_model.specs.end.Building.{filled_behind, sent};
+ghost use Rattle.sctp_congestion.specs.PaceStands.{PacesStand};
 ghost use Rattle.sctp_packet.specs.Draft.{room_in};
 ghost use Rattle.sctp_association.specs.StartsMean.{starts_at, with_fragments};
 ghost use Rattle.sctp_association.specs.TrafficStands.{TrafficStands};
@@ -36,15 +37,14 @@ pub(crate) fn fill_by(
     moment: u64,
     writer: &mut PacketWriter,
 ) -> Result<Fragments, NoMemory>
-    ensures filled { (e : EndView) (m : marks.Marks) (n : starts.Starts) → TrafficStands traffic.old (format_of e) e.sender e.receiver → pace.old ≡ e.pace
+    ensures filled { (e : EndView) (m : marks.Marks) (n : starts.Starts) → TrafficStands traffic.old (format_of e) e.sender e.receiver → PacesStand (format_of e) e.sender.cum pace.old e.pace
         → moment ≡ e.moment → IsOf e (record { writer = writer.old; marks = m })
         → IfOk result (λ fragments. starts_at n ≡ with_fragments fragments.some (starts_at m.starts)
         → FillsBehind e (record { writer = writer.old; marks = m }) (record { writer = writer.new; marks = record m { starts = n } }) traffic.new fragments.filled) }
-    ensures paced { (e : EndView) (m : marks.Marks) → TrafficStands traffic.old (format_of e) e.sender e.receiver → pace.old ≡ e.pace → moment ≡ e.moment
-        → IsOf e (record { writer = writer.old; marks = m }) → OnOk result (pace.new ≡ (sent (drafted m e) writer.old.chunks).pace) }
+    ensures paced { (e : EndView) (m : marks.Marks) → TrafficStands traffic.old (format_of e) e.sender e.receiver → PacesStand (format_of e) e.sender.cum pace.old e.pace → moment ≡ e.moment
+        → IsOf e (record { writer = writer.old; marks = m }) → OnOk result (PacesStand (format_of e) (filled_behind (drafted m e) writer.old.chunks).view.cum pace.new (sent (drafted m e) writer.old.chunks).pace) }
     ensures memory { (f : Format) (s : SenderView) (r : ReceiverView) → TrafficStands traffic.old f s r → OnErr result (TrafficStands traffic.new f s r) }
-    ensures kept { OnErr result (pace.new ≡ pace.old) }
-    ensures unpaced { pace.old ≡ None → pace.new ≡ None }
+    ensures kept { (f : Format) (cum : ℕ) (o : Option Pace) → PacesStand f cum pace.old o → OnErr result (PacesStand f cum pace.new o) }
 {
     if traffic.drained() {
         // law: then it has nothing to send
@@ -72,14 +72,14 @@ fn fill_paced(
     moment: u64,
     writer: &mut PacketWriter,
 ) -> Result<Fragments, NoMemory>
-    ensures filled { (e : EndView) (m : marks.Marks) (n : starts.Starts) → TrafficStands traffic.old (format_of e) e.sender e.receiver → e.pace ≡ Some pace.old
+    ensures filled { (e : EndView) (m : marks.Marks) (n : starts.Starts) → TrafficStands traffic.old (format_of e) e.sender e.receiver → PacesStand (format_of e) e.sender.cum (Some pace.old) e.pace
         → moment ≡ e.moment → IsOf e (record { writer = writer.old; marks = m })
         → IfOk result (λ fragments. starts_at n ≡ with_fragments fragments.some (starts_at m.starts)
         → FillsBehind e (record { writer = writer.old; marks = m }) (record { writer = writer.new; marks = record m { starts = n } }) traffic.new fragments.filled) }
-    ensures paced { (e : EndView) (m : marks.Marks) → TrafficStands traffic.old (format_of e) e.sender e.receiver → e.pace ≡ Some pace.old → moment ≡ e.moment
-        → IsOf e (record { writer = writer.old; marks = m }) → OnOk result (Some pace.new ≡ (sent (drafted m e) writer.old.chunks).pace) }
+    ensures paced { (e : EndView) (m : marks.Marks) → TrafficStands traffic.old (format_of e) e.sender e.receiver → PacesStand (format_of e) e.sender.cum (Some pace.old) e.pace → moment ≡ e.moment
+        → IsOf e (record { writer = writer.old; marks = m }) → OnOk result (PacesStand (format_of e) (filled_behind (drafted m e) writer.old.chunks).view.cum (Some pace.new) (sent (drafted m e) writer.old.chunks).pace) }
     ensures memory { (f : Format) (s : SenderView) (r : ReceiverView) → TrafficStands traffic.old f s r → OnErr result (TrafficStands traffic.new f s r) }
-    ensures kept { OnErr result (pace.new ≡ pace.old) }
+    ensures kept { (f : Format) (cum : ℕ) (o : Option Pace) → PacesStand f cum (Some pace.old) o → OnErr result (PacesStand f cum (Some pace.new) o) }
 {
     let before = traffic.last_sent();
     narrow(traffic, pace, writer);

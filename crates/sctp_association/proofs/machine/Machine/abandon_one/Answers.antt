@@ -4,6 +4,7 @@ use Rattle.sctp_model.specs.sender.Abandoning.{abandon_after}
 use Rattle.sctp_association.specs.MachineStands.{MachineStands}
 use Rattle.sctp_association.proofs.MachineLemmas.{at_view, joined, unjoined, with_traffic}
 use Rattle.sctp_association.proofs.CallLemmas.{abandon_fresh, unknown_fresh}
+use Rattle.sctp_association.proofs.CumLemmas.{abandon_stays}
 use Rattle.sctp_association.proofs.machine.Machine.abandon_one.Goals as goal
 
 pub returns-in-Unjoined-clause-answer : goal.returns-in-Unjoined-clause-answer
@@ -23,4 +24,4 @@ pub returns-in-Joined-clause-step : goal.returns-in-Joined-clause-step
 unfolding MachineStands
 returns-in-Joined-clause-step c = λ v stands.
     with_traffic _ _ _ v (abandon_after v.sender c.args.ticket.0) v.receiver c.in-Joined.is stands
-    (c.abandon.ensures.step _ v.sender v.receiver (joined _ _ v c.in-Joined.is stands).traffic) refl refl
+    (c.abandon.ensures.step _ v.sender v.receiver (joined _ _ v c.in-Joined.is stands).traffic) (abandon_stays v.sender c.args.ticket.0) refl refl

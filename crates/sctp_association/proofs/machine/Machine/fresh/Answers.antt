@@ -16,7 +16,7 @@ returns c = λ r stands. record {
   phase = refl;
   life = record { terms = refl; sender = refl; receiver = refl };
   room = none_kept c.new.result _ c.new.ensures.capacity;
-  pace = refl;
+  pace = tt;
   unpaced = λ off. refl;
   options = c.limit.ensures.plain;
   beats = refl;

@@ -13,12 +13,13 @@ use Rattle.sctp_association.specs.declared.state.life.Life.TheVariants as life
 use Rattle.sctp_association.proofs.MachineLemmas.{at_view, joined, with_traffic}
 use Rattle.sctp_association.proofs.HearingLemmas.{heard_unpaced, sack_left}
 use Rattle.sctp_association.proofs.FollowLemmas.{sack_follows}
+use Rattle.sctp_association.proofs.CumLemmas.{sack_rises}
 use Rattle.sctp_association.proofs.machine.Machine.hear_sack_paced.Goals as goal
 
 pub returns-in-None-clause-step : goal.returns-in-None-clause-step
 unfolding MachineStands
 returns-in-None-clause-step c = λ v t g stands phase.
-    heard_unpaced c.count_sack.result _ v (sack_meaning c.args.sack.now) stands.options (sym stands.pace ∙ c.in-None.is) (c.count_sack.ensures.answer v t g stands phase)
+    heard_unpaced c.count_sack.result _ v (sack_meaning c.args.sack.now) stands.options (no_pace _ _ _ v.pace c.in-None.is stands.pace) (c.count_sack.ensures.answer v t g stands phase)
     (c.count_sack.ensures.step v t g stands phase)
 
 pub returns-in-Ok-clause-step : goal.returns-in-Ok-clause-step

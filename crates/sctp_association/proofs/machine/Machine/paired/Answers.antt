@@ -3,8 +3,10 @@ use Rattle.sctp_model.specs.sender.SenderView.{fresh_sender}
 use Rattle.sctp_model.specs.receiver.ReceiverView.{fresh_receiver}
 use Rattle.sctp_model.specs.end.EndView.{Alarm, EndView, Paired, Idle, Open, Established, fresh_end, format_for, send_limits, unused_timer}
 use Rattle.sctp_model.specs.end.EndView as model
-use Rattle.sctp_model.specs.end.Opening.{joined, terms_alike, tags_between}
+use Rattle.sctp_model.specs.end.Opening.{joined, pace_for, terms_alike, tags_between}
 use Rattle.sctp_model.proofs.PacedEnds.{unbeating}
+use Rattle.sctp_model.specs.messages.Framing.{header_of}
+use Rattle.sctp_congestion.specs.PaceStands.{PacesStand}
 use Rattle.sctp_association.specs.TrafficStands.{TrafficStands}
 use Rattle.sctp_association.specs.MachineStands.{MachineStands}
 use Rattle.sctp_association.proofs.MachineLemmas.{at_view}
@@ -34,8 +36,9 @@ returns c =
         answers = λ off. refl;
       };
       room = rw c.new.ensures.capacity (omega arith);
-      pace = rw c.buffer-2.ensures.exact at c.pace_for-pace.ensures;
-      unpaced = unpaced config config.buffer;
+      pace = subst (λ (x : model.Terms). PacesStand (format_for x.interleave) 0 c.pace_for-pace.result (pace_for config (header_of (format_for x.interleave)) config.buffer)) c.alike-terms.ensures
+          (rw c.buffer-2.ensures.exact at c.pace_for-pace.ensures);
+      unpaced = unpaced config _ config.buffer;
       options = options;
       beats = refl;
     })

@@ -2,6 +2,7 @@ use Rattle.std.proofs.Common.{refl}
 use Rattle.sctp_association.specs.MachineStands.{MachineStands}
 use Rattle.sctp_association.proofs.MachineLemmas.{joined, unjoined, with_traffic}
 use Rattle.sctp_association.proofs.CallLemmas.{refuses_fresh}
+use Rattle.sctp_association.proofs.CumLemmas.{no_lower}
 use Rattle.sctp_association.proofs.machine.Machine.queue.Goals as goal
 
 pub returns-in-Unjoined-clause-answer : goal.returns-in-Unjoined-clause-answer
@@ -18,4 +19,4 @@ returns-in-Joined-clause-answer c = λ v stands. c.queue.ensures.answer _ v.send
 pub returns-in-Joined-clause-step : goal.returns-in-Joined-clause-step
 unfolding MachineStands
 returns-in-Joined-clause-step c = λ v stands.
-    with_traffic _ _ _ v _ v.receiver c.in-Joined.is stands (c.queue.ensures.step _ v.sender v.receiver (joined _ _ v c.in-Joined.is stands).traffic) refl refl
+    with_traffic _ _ _ v _ v.receiver c.in-Joined.is stands (c.queue.ensures.step _ v.sender v.receiver (joined _ _ v c.in-Joined.is stands).traffic) (no_lower v.sender.cum) refl refl

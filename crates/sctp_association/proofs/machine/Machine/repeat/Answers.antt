@@ -3,6 +3,7 @@ use Rattle.sctp_model.specs.sender.SenderView.{SenderView}
 use Rattle.sctp_model.specs.sender.Abandoning.{timed_out}
 use Rattle.sctp_association.specs.MachineStands.{MachineStands}
 use Rattle.sctp_association.proofs.MachineLemmas.{at_view, joined, unjoined, with_traffic, timed_out_fresh}
+use Rattle.sctp_association.proofs.CumLemmas.{no_lower}
 use Rattle.sctp_association.proofs.machine.Machine.repeat.Goals as goal
 
 pub returns-in-Unjoined : goal.returns-in-Unjoined
@@ -14,4 +15,4 @@ pub returns-in-Joined : goal.returns-in-Joined
 unfolding MachineStands
 returns-in-Joined c = λ v stands.
     with_traffic _ _ _ v (timed_out v.sender) v.receiver c.in-Joined.is stands
-    (c.on_timeout.ensures _ v.sender v.receiver (joined _ _ v c.in-Joined.is stands).traffic) refl refl
+    (c.on_timeout.ensures _ v.sender v.receiver (joined _ _ v c.in-Joined.is stands).traffic) (no_lower v.sender.cum) refl refl

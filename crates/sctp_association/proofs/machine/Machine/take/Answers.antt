@@ -5,6 +5,7 @@ use Rattle.sctp_association.specs.MachineStands.{MachineStands}
 use Rattle.sctp_association.proofs.MachineLemmas.{joined, unjoined, with_traffic}
 use Rattle.sctp_association.proofs.CallLemmas.{takes_unjoined}
 use Rattle.sctp_association.proofs.OptionLemmas.{unupdating}
+use Rattle.sctp_association.proofs.CumLemmas.{no_lower}
 use Rattle.sctp_association.proofs.machine.Machine.take.Goals as goal
 
 pub returns-in-Unjoined : goal.returns-in-Unjoined
@@ -18,6 +19,6 @@ returns-in-Joined c = λ v stands.
     let after : EndView = record v { receiver = a.0 } in (
       after,
       record { receiver = a.0; takes = a.1; leaves = sym (unupdating after stands.options) },
-      with_traffic _ _ _ v v.sender a.0 c.in-Joined.is stands a.2 (take_keeps_buffer v.receiver c.args.stream _ a.0 a.1)
+      with_traffic _ _ _ v v.sender a.0 c.in-Joined.is stands a.2 (no_lower v.sender.cum) (take_keeps_buffer v.receiver c.args.stream _ a.0 a.1)
           (c.resets_stay.ensures.take v.receiver c.args.stream _ a.0 a.1),
     )
