@@ -1,13 +1,13 @@
 //! The outstanding entries, those above the cumulative TSN acknowledged (CUM), with counts of them, so that no call has to look at all.
 
-ghost use Rattle.std.specs.Prelude.{◌≡◌, ℕ, ◌+◌, ◌*◌, ◌-◌, ◌<◌, ◌≤◌, ◌%◌, ◌^◌, ◌++◌, ◌∷◌, [], None, Some, drop, true, false, map, length, slice_get, slice_index_or, OnOk, OnErr};
+ghost use Rattle.std.specs.Prelude.{◌≡◌, ℕ, ◌+◌, ◌-◌, ◌<◌, ◌≤◌, ◌++◌, ◌∷◌, [], None, Some, drop, true, false, map, length, slice_get, slice_index_or, OnOk, OnErr};
 ghost use Rattle.sctp_send.specs.OutstandingFields.{item_meaning};
 ghost use Rattle.sctp_send.specs.PartsKept.{changed};
 ghost use Rattle.sctp_send.specs.declared.kept.stretches.Stretch.{Stretch};
 ghost use Rattle.sctp_send.specs.inner.Changes.{stood};
 ghost use Rattle.sctp_send.specs.inner.Stretching.{index_at, slot_at};
 ghost use Rattle.sctp_send.specs.inner.Walks.{abandoned_items, any_unsettled};
-ghost use Rattle.sctp_send.specs.inner.Wishing.{first_offset, is_item_marked, is_item_unsent, item_flight, item_chunks};
+ghost use Rattle.sctp_send.specs.inner.Wishing.{first_offset, is_item_marked, is_item_unsent};
 
 use crate::kept::by_ticket::ByTicket;
 use crate::kept::counts::{Counts, front_behind, stand_one};
@@ -84,22 +84,6 @@ impl Outstanding {
         ensures { result.now ≡ slice_index_or self.now.items at result.now }
     {
         &self.entries[at]
-    }
-
-    /// How many bytes of data are in flight, modulo 2^64.
-    pub(crate) fn flight(&self) -> u64
-        ensures flight { result ≡ item_flight (map (item_meaning self.now.size) self.now.items) % 2 ^ 64 }
-        ensures bound { item_flight (map (item_meaning self.now.size) self.now.items) ≤ length self.now.items * 65535 }
-    {
-        self.counts.flight
-    }
-
-    /// How many bytes the chunks have that are in flight, modulo 2^64.
-    pub(crate) fn chunk_flight(&self) -> u64
-        ensures flight { result ≡ item_chunks self.now.header (map (item_meaning self.now.size) self.now.items) % 2 ^ 64 }
-        ensures bound { item_chunks self.now.header (map (item_meaning self.now.size) self.now.items) ≤ length self.now.items * 131072 }
-    {
-        self.counts.chunks
     }
 
     /// Some entry was sent, and is neither acknowledged nor abandoned.
