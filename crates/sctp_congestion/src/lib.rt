@@ -39,8 +39,8 @@
 //! | [`RoundTrips::start_timing`], [`RoundTrips::stop_timing`] | `timed_from`; `still_timed` (Karn's algorithm) |
 //! | [`RoundTrips::trip`], [`RoundTrips::measure`], [`RoundTrips::rto`] | `trip_told`; `with_trip`; `wait_measured` |
 //!
-//! The other calls read a value, or change one that they name. Costs are constant, but that `notice` and `sent` cost what they are told of, and indexes that
-//! have a number cost once when it is taken and once when the cumulative TSN passes them.
+//! The other calls read a value, or change one that they name. Costs are constant, but that `notice` and `sent` cost the indexes that they are passed, and
+//! each index from the first of these to the last once, and once more when the cumulative TSN passes it. Without such indexes nothing is allocated.
 #![tactic(auto)]
 
 mod control;

@@ -82,8 +82,8 @@ impl Pacing {
         self.misses.is_missed(index)
     }
 
-    /// Each index that has its third miss indication is below this one: those above the cumulative TSN are the ones that [`Pacing::is_missed`] tells from
-    /// it, or from the next one on, up to here.
+    /// An index after those that have their third miss indication: above the cumulative TSN it is these for which [`Pacing::is_missed`] holds, from there, or
+    /// from the next index, up to this one.
     pub fn missed_end(&self) -> u64
         ensures { (f : Format) (cum from : ℕ) (p : Pace) → PaceStands f cum self.now p → from ≤ suc cum → (i : ℕ) → cum < i
             → is_missed p.misses i ≡ (nat_le from i && (nat_lt i result && missed_at self.now i)) }
