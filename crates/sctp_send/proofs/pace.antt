@@ -9,3 +9,4 @@ pub mod FlyingLemmas
 pub mod WeighLemmas
 pub mod AfterLemmas
 pub mod SentLemmas
+pub mod ToldLemmas

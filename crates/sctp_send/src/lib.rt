@@ -84,6 +84,7 @@
 mod abandon;
 mod fill;
 mod forward;
+mod index_test;
 mod kept;
 mod laws;
 mod pace;
@@ -98,6 +99,7 @@ mod told;
 pub use abandon::Abandoned;
 pub use fill::Filled;
 pub use fill::sendings::Sendings;
+pub use index_test::IndexTest;
 pub use pace::weight::Weight;
 pub use queueing::SendFault;
 pub use resetting::{EarlierRequest, ResetRequest};

@@ -13,6 +13,7 @@ use Rattle.sctp_send.specs.declared.kept.entry.CoveredRun.{CoveredRun}
 use Rattle.sctp_send.specs.declared.pace.tally.Tally.{Tally}
 use Rattle.sctp_send.specs.inner.Walks.{is_item_unsettled}
 use Rattle.sctp_send.specs.inner.Wishing.{first_offset, is_item_marked, item_bytes}
+use Rattle.sctp_send.specs.inner.Testing.{index_of}
 
 -- ---- one item
 
@@ -55,6 +56,10 @@ unsettled_chunk header x = whole header (unsettled_bytes x)
 -- the item at an offset passes
 abbrev pub passes_here : (Item → Bool) → List Item → ℕ → Bool
 passes_here test xs k = some_passes test (slice_get xs k)
+
+-- the item at an offset is in flight, and its index passes
+abbrev pub flies_and_passes : (says : ℕ → Bool) → (cum : ℕ) → List Item → ℕ → Bool
+flies_and_passes says cum xs k = passes_here is_item_flying xs k && says (index_of cum k)
 
 -- ---- the first that passes
 
