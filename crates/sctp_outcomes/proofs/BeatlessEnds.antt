@@ -9,7 +9,7 @@ use Rattle.sctp_model.specs.sender.Queueing.{Refusal, refusal}
 use Rattle.sctp_model.specs.sender.Readers.{point}
 use Rattle.sctp_model.specs.sender.Abandoning.{abandon_after, worn}
 use Rattle.sctp_model.specs.end.Sealing.{Body}
-use Rattle.sctp_model.specs.end.EndView.{Draw, Aborted, TimedOut, Established, ShutdownPending, ShutdownSent, ShutdownReceived, ShutdownAckSent, Phase, Idle, Listening, Calling, Echoing, Open, Over, Alarm, InitAlarm, CookieAlarm, DataAlarm, ShutdownAlarm, AckAlarm, EndView, has_association, ResetAlarm, BeatAlarm, GuardAlarm, Configuration, Ended, AbortedHere, Completed, StaleCookie, Paired, fresh_end, Timer, Beats, no_beats}
+use Rattle.sctp_model.specs.end.EndView.{Draw, Aborted, TimedOut, Established, ShutdownPending, ShutdownSent, ShutdownReceived, ShutdownAckSent, Phase, Idle, Listening, Calling, Echoing, Open, Over, Alarm, InitAlarm, CookieAlarm, DataAlarm, ShutdownAlarm, AckAlarm, EndView, has_association, ResetAlarm, BeatAlarm, GuardAlarm, Configuration, Ended, AbortedHere, Completed, StaleCookie, Paired, fresh_end, Timer, Beats, no_beats, first_offer}
 use Rattle.sctp_model.specs.end.Clock.{echo_trip, measured, stopped, is_home, may_go_on, is_over_at, with_timer, closed, at_moment, settled, turned}
 use Rattle.sctp_model.specs.end.Clock.{expired_timer}
 use Rattle.sctp_model.specs.end.Closing.{rested, hears}
@@ -65,7 +65,7 @@ still_beating_after ws e r off = ((r off).0, (go (0 == length ws) (r off).1.0, (
 
 -- two that are opened without packets
 pub still_opened : (c : Configuration) (x y : Draw) → IsStillAt (opened c x y)
-still_opened c x y = still_beating (record (joined (terms_alike c x y) c.buffer (fresh_end c Paired Idle)) { phase = Open (tags_between x y) Established }) (λ off. (refl, (refl, refl)))
+still_opened c x y = still_beating (record (joined (terms_alike c x y) (first_offer c) (fresh_end c Paired Idle)) { phase = Open (tags_between x y) Established }) (λ off. (refl, (refl, refl)))
 
 -- nothing is answered
 still_heard : (e : EndView) (i : List ℕ) → IsStillAt e → IsStillAt (beat_heard e i)

@@ -13,8 +13,8 @@ use Rattle.sctp_model.specs.world.Premises.{IsReachable}
 use Rattle.sctp_model.specs.world.Steps.{Run}
 
 -- If nothing is in flight, fragments have all the space that a packet leaves; if something is, the data timer of an open endpoint runs, whose expiry marks
--- all of it (RFC 9260,
--- 6.1, 6.3.2 and 6.3.3).
+-- all of it
+-- (RFC 9260, 6.1, 6.3.2 and 6.3.3).
 pub record IsNeverHeld (e : EndView) : Type 0 where
   pub free : in_flight e.sender ≡ 0 → (xs : List ChunkMeaning) → room_behind e xs ≡ e.configuration.limit - size_of_packet xs
   pub wakes : is_open e.phase ≡ true → 0 < in_flight e.sender → (m : ℕ) × ((e.timers DataAlarm).expiry ≡ Some m)

@@ -7,7 +7,7 @@ use Rattle.sctp_model.specs.numbers.Limits.{GREATEST_GROWTH}
 use Rattle.sctp_model.specs.sender.Words.{when, first_there, some_passes}
 use Rattle.sctp_model.specs.end.EndView.{Configuration}
 
--- Ports that aren't 0, and sizes, streams and waits within their limits; a full fragment fits a packet of its own.
+-- Ports that aren't 0, and sizes and streams within their limits; a full fragment fits a packet of its own.
 pub record IsConfiguration (c : Configuration) : Type 0 where
   pub own_port : (0 < c.own_port) × (c.own_port < 2 ^ 16)
   pub peer_port : (0 < c.peer_port) × (c.peer_port < 2 ^ 16)
@@ -17,11 +17,12 @@ pub record IsConfiguration (c : Configuration) : Type 0 where
   pub outbound : (1 ≤ c.outbound) × (c.outbound ≤ STREAM_LIMIT)
   pub inbound : (1 ≤ c.inbound) × (c.inbound ≤ STREAM_LIMIT)
 
--- The bounds of its options, which no theorem rests on: RTO.Initial from 1 to RTO.Max (RFC 9260, 16); a reserve within the buffer (6.2); a message of no more
--- fragments than may be outstanding (6.9), and with space to wait; the growth of the window (7.2.1).
+-- The bounds of its options, which no theorem rests on: RTO.Initial from 1 to RTO.Max (RFC 9260, 16); a reserve of at most half the buffer, so that the
+-- window that is left can open by a quarter (6.2); a message of no more fragments than may be outstanding (6.9), and with space to wait; the growth of the
+-- window (7.2.1).
 pub record HasBoundedOptions (c : Configuration) : Type 0 where
   pub waits : (1 ≤ c.first_wait) × (c.first_wait ≤ c.longest_wait) × (c.longest_wait ≤ LONGEST_WAIT)
-  pub reserve : c.reserve ≤ c.buffer
+  pub reserve : 2 * c.reserve ≤ c.buffer
   pub longest_message : (1 ≤ c.longest_message) × (c.longest_message ≤ WINDOW * c.fragment)
   pub queue : (most : ℕ) → c.queue_bytes ≡ Some most → c.longest_message ≤ most
   pub growth : (1 ≤ c.growth) × (c.growth ≤ GREATEST_GROWTH)
@@ -74,7 +75,7 @@ pub data ConfigurationFault : Type 0 where
   WrongStreams : ConfigurationFault
   -- RTO.Initial or RTO.Max is
   WrongWait : ConfigurationFault
-  -- it is more than the buffer
+  -- it is more than half the buffer
   WrongReserve : ConfigurationFault
   -- it is none, or has more fragments than may be outstanding
   WrongMessage : ConfigurationFault
@@ -100,7 +101,7 @@ configuration_fault c = first_there (
     ∷ when (not (is_between LEAST_BUFFER GREATEST_BUFFER c.buffer)) WrongBuffer
     ∷ when (not (is_between 1 STREAM_LIMIT c.outbound && is_between 1 STREAM_LIMIT c.inbound)) WrongStreams
     ∷ when (not (is_between 1 c.longest_wait c.first_wait && nat_le c.longest_wait LONGEST_WAIT)) WrongWait
-    ∷ when (not (nat_le c.reserve c.buffer)) WrongReserve
+    ∷ when (not (nat_le (2 * c.reserve) c.buffer)) WrongReserve
     ∷ when (not (is_between 1 (WINDOW * c.fragment) c.longest_message)) WrongMessage
     ∷ when (some_passes (λ most. nat_lt most c.longest_message) c.queue_bytes) WrongQueue
     ∷ when (not (is_between 1 GREATEST_GROWTH c.growth)) WrongGrowth

@@ -6,7 +6,7 @@ use Rattle.sctp_model.specs.sender.SenderView.{SenderView, fresh_sender}
 use Rattle.sctp_model.specs.receiver.ReceiverView.{ReceiverView, fresh_receiver}
 use Rattle.sctp_model.specs.end.Sealing.{Sealing}
 use Rattle.sctp_model.specs.end.Pacing.{Pace}
-pub use Rattle.sctp_model.specs.end.Settings.{Configuration, send_limits, waits_of}
+pub use Rattle.sctp_model.specs.end.Settings.{Configuration, send_limits, first_offer, waits_of}
 
 -- The random values of an endpoint that begins: the tag that packets to it will carry, and the TSN of its index 1 (RFC 9260, 5.3.1 and 3.3.2).
 pub record Draw : Type 0 where
@@ -228,7 +228,7 @@ fresh_end c r h = record {
   due = nothing_due;
   timers = λ a. unused_timer c.first_wait;
   delayed = None;
-  offered = c.buffer;
+  offered = first_offer c;
   pace = None;
   beats = no_beats;
   terms = no_terms;

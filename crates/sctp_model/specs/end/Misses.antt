@@ -62,9 +62,9 @@ newest recovering v u =
 abbrev pub noticed : ℕ → Misses → Misses
 noticed n m = record m { first = max n m.first; second = max (min n m.first) m.second; third = max (min n m.second) m.third }
 
--- what it acknowledged before, and this one doesn't (6.2.1, D iii)
+-- what was sent and acknowledged before it, and isn't acknowledged by it (6.2.1, D iii)
 abbrev pub is_taken_back : (v u : SenderView) → ℕ → Bool
-is_taken_back v u i = v.covered i && not (u.covered i)
+is_taken_back v u i = v.sent i && (v.covered i && not (u.covered i))
 
 -- That counts as sent now: what was acknowledged before it was taken back doesn't miss it.
 abbrev pub taken_back : (v u : SenderView) → Misses → Misses

@@ -13,7 +13,7 @@ use Rattle.sctp_model.specs.sender.SenderView.{fresh_sender}
 use Rattle.sctp_model.specs.receiver.ReceiverView.{fresh_receiver}
 use Rattle.sctp_model.specs.end.Sealing.{Body, Sealing}
 use Rattle.sctp_model.specs.end.Pacing.{Pace, fresh_pace}
-use Rattle.sctp_model.specs.end.EndView.{Terms, Configuration, send_limits, Draw, Tags, AbortedHere, Stage, Established, Phase, Idle, Calling, Echoing, Open}
+use Rattle.sctp_model.specs.end.EndView.{Terms, Configuration, first_offer, send_limits, Draw, Tags, AbortedHere, Stage, Established, Phase, Idle, Calling, Echoing, Open}
 use Rattle.sctp_model.specs.end.EndView.{Role, Caller, Paired, Listener, CookieAlarm, EndView, fresh_end, format_for}
 use Rattle.sctp_model.specs.end.Clock.{turned, closed, echo_trip, measured}
 use Rattle.sctp_model.specs.end.Beating.{beating}
@@ -27,9 +27,9 @@ use Rattle.sctp_model.specs.end.PeerFaults.{TAG, COOKIE, Unnoted, After, GoesOn,
 
 -- ---- an association that begins
 
--- an endpoint that is opened without packets: established at once, its peer's window the buffer of its own
+-- an endpoint that is opened without packets: established at once, its peer's window its own
 abbrev pub opened : Configuration → Draw → Draw → EndView
-opened c own peer = beating (record (joined (terms_alike c own peer) c.buffer (fresh_end c Paired Idle)) { phase = Open (tags_between own peer) Established })
+opened c own peer = beating (record (joined (terms_alike c own peer) (first_offer c) (fresh_end c Paired Idle)) { phase = Open (tags_between own peer) Established })
 
 -- ---- INIT (5.1.1)
 
@@ -37,7 +37,7 @@ opened c own peer = beating (record (joined (terms_alike c own peer) c.buffer (f
 -- streams (3.3.2).
 abbrev pub introduction : Configuration → Draw → List ℕ → InitMeaning
 introduction c d parameters =
-    record { tag = d.tag; rwnd = c.buffer; outbound = c.outbound; inbound = c.inbound; tsn = d.tsn; parameters = parameters }
+    record { tag = d.tag; rwnd = first_offer c; outbound = c.outbound; inbound = c.inbound; tsn = d.tsn; parameters = parameters }
 
 -- the caller's INIT (3.3.2): of parameters it has its options alone
 abbrev pub own_init : Configuration → Draw → ChunkMeaning

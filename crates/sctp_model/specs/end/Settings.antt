@@ -1,5 +1,5 @@
 -- What an endpoint is set up with: ports, sizes, streams and options. `Configured` has their bounds.
-use Rattle.std.specs.Prelude.{ℕ, Bool, Option}
+use Rattle.std.specs.Prelude.{ℕ, ◌-◌, Bool, Option}
 use Rattle.sctp_model.specs.sender.SenderView.{SendLimits}
 use Rattle.sctp_model.specs.end.Trips.{RtoBounds}
 
@@ -57,6 +57,10 @@ pub record Configuration : Type 0 where
 -- the limits of its sender
 abbrev pub send_limits : Configuration → SendLimits
 send_limits c = record { message = c.longest_message; queue = c.queue_bytes }
+
+-- the window that it advertises first (3.3.2): as each later one, what the reserve leaves of its buffer
+abbrev pub first_offer : Configuration → ℕ
+first_offer c = c.buffer - c.reserve
 
 -- the bounds of its RTO
 abbrev pub waits_of : Configuration → RtoBounds

@@ -121,8 +121,8 @@ long bytes is = (rw (length-cut 1400 bytes) (rw is refl), rw is refl)
 
 -- ---- faults of a configuration
 
-faults : configuration_fault (record plain { first_wait = 0 }) ∷ configuration_fault (record plain { longest_wait = 999 }) ∷ configuration_fault (record plain { longest_wait = 60001 }) ∷ configuration_fault (record plain { reserve = 65537 })
-    ∷ configuration_fault (record plain { longest_message = 45873801 }) ∷ configuration_fault (record plain { longest_message = 45873800; reserve = 65536; first_wait = 1; longest_wait = 1 })
+faults : configuration_fault (record plain { first_wait = 0 }) ∷ configuration_fault (record plain { longest_wait = 999 }) ∷ configuration_fault (record plain { longest_wait = 60001 }) ∷ configuration_fault (record plain { reserve = 32769 })
+    ∷ configuration_fault (record plain { longest_message = 45873801 }) ∷ configuration_fault (record plain { longest_message = 45873800; reserve = 32768; first_wait = 1; longest_wait = 1 })
     ∷ configuration_fault (record plain { queue_bytes = Some 65535 }) ∷ configuration_fault (record plain { queue_bytes = Some 65536 })
     ∷ configuration_fault (record plain { growth = 0 }) ∷ configuration_fault (record plain { growth = 16 }) ∷ []
     ≡ Some WrongWait ∷ Some WrongWait ∷ Some WrongWait ∷ Some WrongReserve ∷ Some WrongMessage ∷ None ∷ Some WrongQueue ∷ None ∷ Some WrongGrowth ∷ None ∷ []
