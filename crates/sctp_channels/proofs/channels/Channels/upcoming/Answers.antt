@@ -7,8 +7,9 @@ use Rattle.sctp_channels.proofs.channels.Channels.upcoming.Goals as goal
 
 pub returns-in-Some-clause-comes : goal.returns-in-Some-clause-comes
 returns-in-Some-clause-comes c = λ v x stands.
+    let now = c.ahead.ensures.same v x stands in
     let is = c.in-Nothing.ensures.ahead v x stands in
-    next_turn v x (Some c.in-Some.stream) is.0 is.1 (c.in-Some.ensures v x (c.ahead.ensures.same v x stands))
+    subst (λ (r : Reported). Comes r v x c.upcoming_on.result) (sym (next_turn v x (Some c.in-Some.stream) is.0 is.1 (c.in-Some.ensures v x now))) (c.upcoming_on.ensures v x now)
 
 pub returns-in-None-clause-comes : goal.returns-in-None-clause-comes
 returns-in-None-clause-comes c = λ v x stands.
