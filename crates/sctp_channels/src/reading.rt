@@ -7,7 +7,7 @@ ghost use Rattle.sctp_model.specs.end.UserCalls.{UserTakes};
 ghost use Rattle.sctp_recv.specs.HandedOf.{message_bytes};
 ghost use Rattle.sctp_endpoint.specs.Counted.{counted};
 ghost use Rattle.sctp_channels.specs.Streams.{is_reset, Table, stream_at};
-ghost use Rattle.sctp_channels.specs.Events.{reports_message, reports_over, next_report, next_told};
+ghost use Rattle.sctp_channels.specs.Events.{reports_message, reports_over, turn, reports_turn, next_report, next_told};
 ghost use Rattle.sctp_channels.specs.Writing.{Keeps, Writes};
 ghost use Rattle.sctp_channels.specs.ChannelsStand.{ChannelsStand, endpoint_of};
 ghost use Rattle.sctp_channels.specs.inner.SaidMeans.{bytes_unless};
@@ -75,17 +75,42 @@ impl Channels {
         ensures counts { counted (endpoint_of self.new) ≡ counted (endpoint_of self.old) }
     {
         match self.ahead() {
-            Ahead::Nothing => match self.turn() {
-                Some(stream) => self.upcoming_on(stream),
-                None => self.upcoming_end(),
-            },
+            Ahead::Nothing => self.upcoming_turn(),
             Ahead::Closed { stream } => Upcoming::Other,
             Ahead::Low { stream } => Upcoming::Other,
         }
     }
 
-    /// What is reported next if it is what the first message that waits on this stream says.
+    /// What is reported next if nothing is ahead of messages: what the endpoint's next message says, if the peer hasn't reset its stream.
     #[inline(always)]
+    fn upcoming_turn(&self) -> Upcoming
+        ensures { (v : EndView) (x : Table) → ChannelsStand self.now v x → Comes (reports_turn (turn v x) v x) v x result }
+    {
+        let Some(stream) = self.endpoint.next_readable(self.table.next) else {
+            return self.upcoming_end();
+        };
+        let kept = self.table.at(stream);
+        if kept.resets.is_reset() {
+            return self.upcoming_left();
+        }
+        Upcoming::First {
+            stream,
+            state: kept.state,
+        }
+    }
+
+    /// `upcoming_turn` by the stream whose turn it is, where the peer has reset one.
+    #[inline(never)]
+    fn upcoming_left(&self) -> Upcoming
+        ensures { (v : EndView) (x : Table) → ChannelsStand self.now v x → Comes (reports_turn (turn v x) v x) v x result }
+    {
+        match self.turn() {
+            Some(stream) => self.upcoming_on(stream),
+            None => self.upcoming_end(),
+        }
+    }
+
+    /// What is reported next if it is what the first message that waits on this stream says.
     fn upcoming_on(&self, stream: u16) -> Upcoming
         ensures { (v : EndView) (x : Table) → ChannelsStand self.now v x → Comes (reports_message stream (v.receiver.waiting stream) v x) v x result }
     {
@@ -154,6 +179,7 @@ impl Channels {
     }
 
     /// Takes the first message that waits on a stream, and gives its memory back to the endpoint.
+    #[inline(never)]
     fn drop_first(&mut self, stream: u16)
         ensures step { (v : EndView) (x : Table) (h : Handed) → ChannelsStand self.old v x → slice_get (v.receiver.waiting stream) 0 ≡ Some h
             → (t : EndView) × UserTakes v stream (Some h) t × ChannelsStand self.new t x }
