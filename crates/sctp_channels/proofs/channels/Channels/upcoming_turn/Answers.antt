@@ -1,7 +1,7 @@
 use Rattle.std.proofs.Common.{◌≡◌, ℕ, ◌<◌, Bool, false, Option, Some, refl, sym, ap, ◌∙◌, subst}
 use Rattle.std.specs.Prelude.{◌&&◌, ◌==◌}
 use Rattle.sctp_recv.specs.Readable.{NextReadableAnswer}
-use Rattle.sctp_channels.specs.declared.reading.Upcoming.{Upcoming}
+use Rattle.sctp_channels.specs.declared.reading.Upcoming.TheVariants as upcoming
 use Rattle.sctp_channels.specs.declared.stream.Stream.{Stream}
 use Rattle.sctp_channels.specs.Streams.{is_reset, is_drained, Table, stream_at}
 use Rattle.sctp_channels.specs.Events.{reports_turn}
@@ -22,8 +22,8 @@ returns c = λ v x stands.
     let s = c.in-Some.stream in
     let next = ap (λ (t : Table). t.next) stands.1 in
     let less : s < 65_536 = search in
-    let there = at_as _ x s _ c.at.ensures stands.1 in
+    let there = at_as _ x s _ c.at-kept.ensures stands.1 in
     let off : is_reset (stream_at x s).resets ≡ false = ap (λ (y : Stream). is_reset y.resets) (sym there) ∙ (sym c.is_reset.ensures ∙ c.if-is_reset.false) in
     let fails : is_drained (stream_at x s) ≡ false = ap (λ (b : Bool). b && ((stream_at x s).left == 0)) off in
     let turns = turn_next v x s less fails (subst (λ (from : ℕ). NextReadableAnswer v.receiver.waiting from (Some s)) next (c.in-Some.ensures v stands.0)) in
-    subst (λ (o : Option ℕ). Comes (reports_turn o v x) v x c.result) turns (refl, ap (λ (y : Stream). y.state) there, sym off)
+    subst (λ (o : Option ℕ). Comes (reports_turn o v x) v x (upcoming.First s c.at-kept.result.state)) turns (refl, ap (λ (y : Stream). y.state) there, sym off)
