@@ -8,7 +8,7 @@ invariant_of-self c =
     record {
       few = old.few;
       no_more = old.no_more;
-      busy_fits = c.empty.ensures _;
+      busy_fits = c.empty-self.ensures _;
       used_fits = old.used_fits;
       are_busy = λ s busy. let in_r = old.are_busy s busy in let low = in_r.0 in let high = in_r.1 in absurd (omega (arith, none, low, high));
       are_used = old.are_used;
