@@ -4,7 +4,7 @@ use Rattle.sctp_model.specs.end.EndView.{EndView}
 use Rattle.sctp_endpoint.specs.EndpointStands.{EndpointStands}
 use Rattle.sctp_channels.specs.declared.stream.Stream.{Stream}
 use Rattle.sctp_channels.specs.Streams.{is_reset, with_stream}
-use Rattle.sctp_channels.specs.Told.{Message, Report}
+use Rattle.sctp_channels.specs.Told.{Message}
 use Rattle.sctp_channels.specs.Coming.{one_taken}
 use Rattle.sctp_channels.specs.Events.{one_on}
 use Rattle.sctp_channels.specs.inner.SaidMeans.{kind_meaning}
