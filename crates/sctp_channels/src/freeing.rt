@@ -21,7 +21,7 @@ impl Channels {
         ensures step { (v : EndView) (x : Table) → ChannelsStand self.old v x → ChannelsStand self.new v (swept v x) }
         ensures counts { counted (endpoint_of self.new) ≡ counted (endpoint_of self.old) }
     {
-        if self.table.busy.high <= self.table.busy.low {
+        if self.table.busy.high == 0 {
             return;
         }
         self.sweep_busy();
