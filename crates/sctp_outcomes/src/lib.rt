@@ -142,7 +142,9 @@ pub use kept::{
     what_comes_keeps_logs,
 };
 pub use outcomes::{every_event_has_an_outcome, every_event_has_one_outcome};
-pub use parting::{resets_are_reported_once, resets_part_messages};
+pub use parting::{
+    resets_are_all_reported, resets_are_reported_once, resets_part_messages,
+};
 pub use receiver_steps::{
     forwards_are_computed, pieces_are_computed, runs_are_computed,
     the_cumulative_index_is_computed, what_is_due_is_computed, wholes_are_computed,

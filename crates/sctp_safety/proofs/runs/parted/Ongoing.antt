@@ -1,11 +1,11 @@
 -- What goes on in one direction, in each step of a world whose ends have met.
-use Rattle.std.proofs.Common.{◌≡◌, ℕ, ◌<◌, ◌≤◌, ◌⊎◌, max, Bool, true, false, List, [], ◌∷◌, ◌++◌, length, is_some, Option, Some, None, inl, inr, refl, sym, subst, ap, ◌∙◌, arith, append-nil, ◌==◌, eqb-true, if◌then◌else◌}
+use Rattle.std.proofs.Common.{◌≡◌, ℕ, ◌≤◌, ◌⊎◌, max, Bool, true, false, List, [], ◌∷◌, ◌++◌, is_some, Option, Some, None, inl, inr, refl, sym, subst, ap, ◌∙◌, arith, append-nil, ◌==◌, eqb-true, if◌then◌else◌}
 use Rattle.std.proofs.lemmas.List.{append_assoc}
 use Rattle.sctp_model.specs.numbers.Lists.{Has, item_at}
 use Rattle.sctp_model.specs.wire.Chunk.{ChunkMeaning}
 use Rattle.sctp_model.specs.wire.Packet.{Packet}
-use Rattle.sctp_model.specs.messages.Format.{Format, Lane, Ordered}
-use Rattle.sctp_model.specs.messages.Plan.{Entry, Part, Plan, entry_at}
+use Rattle.sctp_model.specs.messages.Format.{Format, Lane}
+use Rattle.sctp_model.specs.messages.Plan.{Entry, Part, entry_at}
 use Rattle.sctp_model.specs.sender.Outgoing.{is_sending, is_resetting}
 use Rattle.sctp_model.specs.sender.SenderView.{SenderView}
 use Rattle.sctp_model.specs.receiver.ReceiverView.{Handed, ReceiverView, handed, Reaches}
@@ -16,9 +16,8 @@ use Rattle.sctp_model.specs.end.Strays.{Verdict}
 use Rattle.sctp_model.specs.end.Arriving.{Arrives, DroppedUnread, ReadAs, CutFirst, CutLater, cut_to}
 use Rattle.sctp_model.specs.end.Moments.{ticked}
 use Rattle.sctp_model.specs.receiver.ResetTaken.{old_waiting, told_of}
-use Rattle.sctp_model.specs.end.UserCalls.{Called, connect_answer, ResetCall, Begun, NotAgreed, NoStream, reset_call, reset_leaves, reset_there, told_leaves, abort_answer, abort_leaves, shut, send_answer}
+use Rattle.sctp_model.specs.end.UserCalls.{ResetCall, Begun, NotAgreed, NoStream, reset_call, reset_leaves, reset_there, told_leaves, abort_answer, abort_leaves, shut, send_answer}
 use Rattle.sctp_model.specs.sender.Outgoing.{Resets}
-use Rattle.sctp_model.specs.sender.Resetting.{resetting}
 use Rattle.sctp_model.specs.world.World.{Side, A, B, other, World, end_of, end_now, Setup, clock_of}
 use Rattle.sctp_model.specs.world.Events.{Event, Deliver, Foreign, Reset, WasReset, Outcome, Done, ResetThere, reset_told, resets_told}
 use Rattle.sctp_model.specs.world.Steps.{Brings, FromBag, FromStranger, NoPacket, Step, OpensBoth, OpenRefused, TimePasses, Draws, Connects, ConnectRefused, BuildsOne, BuildsNone, PacketComes, IsAbsent, Sends, AbandonsOne, TakesOne, ResetsOne, TellsReset, ShutsDown, AbortsIt, NoMemory, PacketCut, TimeGoesOn, MomentComes}
@@ -31,7 +30,6 @@ use Rattle.sctp_safety.proofs.machine.OneEnd.{IsAt, at_end, at_log, at_packet, a
 use Rattle.sctp_safety.proofs.machine.Strangers.{stranger_stays}
 use Rattle.sctp_safety.proofs.moves.UsualLemmas.{good_usual}
 use Rattle.sctp_safety.specs.Parted.{Asks}
-use Rattle.sctp_safety.proofs.runs.Answers.{answer_opens}
 use Rattle.sctp_safety.proofs.runs.Asking.{asked_unnoted}
 use Rattle.sctp_safety.proofs.runs.Dates.{Dated}
 use Rattle.sctp_safety.proofs.runs.DatedBags.{Dates, dated_bag, AreKept}
@@ -42,7 +40,7 @@ use Rattle.sctp_safety.proofs.runs.parted.Since.{Since, since_same, since_itself
 use Rattle.sctp_safety.proofs.runs.ResetFacts.{IsNoted, noted_sent, noted_received}
 use Rattle.sctp_safety.proofs.runs.parted.Onward.{Onward, IsHandedLater, IsPerformed, onward_itself}
 use Rattle.sctp_safety.proofs.runs.parted.Quiet.{IsQuiet, quiet_same, quiet_noted, builds_quiet, sent_quiet, abandoned_quiet, taken_quiet, shut_quiet, aborted_quiet}
-use Rattle.sctp_safety.proofs.runs.parted.LaterEnds.{LaterEnd, IsUnnoted, later_same, later_itself, later_on, arrives_later, builds_later, ticked_later, ticked_receiver, sent_later, abandoned_later, shut_later, aborted_later, taken_later}
+use Rattle.sctp_safety.proofs.runs.parted.LaterEnds.{LaterEnd, IsUnnoted, later_same, later_on, arrives_later, builds_later, ticked_later, ticked_receiver, sent_later, abandoned_later, shut_later, aborted_later, taken_later}
 
 -- ---- views
 

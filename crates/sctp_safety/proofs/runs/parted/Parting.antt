@@ -3,21 +3,20 @@ use Rattle.std.proofs.Common.{◌≡◌, ℕ, zero, suc, ◌<◌, ◌≤◌, ◌
 use Rattle.sctp_model.specs.numbers.Lists.{Has, AreInOrder}
 use Rattle.sctp_model.specs.messages.Format.{Format, Ordered, Lane, ordered_lane}
 use Rattle.sctp_model.specs.messages.Plan.{Message, bytes_of, Entry, Part, End, Plan, entry_at, message_at, IsClosed, IsOf}
-use Rattle.sctp_model.specs.sender.Outgoing.{Request, lists, Sending, Sends, Resets, Refuses, is_sending, is_resetting}
+use Rattle.sctp_model.specs.sender.Outgoing.{Sending, Sends, Resets, Refuses, is_sending, is_resetting}
 use Rattle.sctp_model.specs.sender.SenderView.{Queued, SenderView}
 use Rattle.sctp_model.specs.sender.Entries.{entry_lane}
 use Rattle.sctp_model.specs.receiver.ReceiverView.{Handed, ReceiverView, handed, Reaches}
 use Rattle.sctp_model.specs.world.Calls.{Asked, call_at}
 use Rattle.sctp_model.specs.world.Safe.{WasHanded}
 use Rattle.sctp_model.specs.end.Configured.{IsConfiguration}
-use Rattle.sctp_model.specs.world.World.{Side, A, B, other, World, end_of, Setup, configuration_of, start}
+use Rattle.sctp_model.specs.world.World.{Side, other, World, end_of, Setup, configuration_of, start}
 use Rattle.sctp_model.specs.world.Events.{Event, Reset, WasReset, Outcome, Done, ResetThere}
 use Rattle.sctp_model.specs.world.Steps.{Step, PassesThrough, last_of}
 use Rattle.sctp_model.specs.world.Premises.{drawn_in, asked_at}
 use Rattle.sctp_safety.specs.Agreement.{IsOpening}
-use Rattle.sctp_safety.specs.Way.{Way}
 use Rattle.sctp_safety.specs.Parted.{IsLater, HandsLaterOnes, Asks, RequestsPartMessages}
-use Rattle.sctp_safety.proofs.lists.Basics.{Has-left, Has-right, lane_is, item_at-within, item_at-above, slice_get-within}
+use Rattle.sctp_safety.proofs.lists.Basics.{Has-right, lane_is, item_at-within, item_at-above, slice_get-within}
 use Rattle.sctp_safety.proofs.machine.EndsAgree.{fine_by, sound_start, opening_of}
 use Rattle.sctp_safety.proofs.machine.Ground.{IsFine}
 use Rattle.sctp_safety.proofs.moves.Facts.{Good, IsHonest}
@@ -26,11 +25,11 @@ use Rattle.sctp_safety.proofs.moves.UsualLemmas.{good_usual}
 use Rattle.sctp_safety.proofs.receiving.CountReads.{all_counted}
 use Rattle.sctp_safety.proofs.runs.Courses.{passing_goes_on}
 use Rattle.sctp_safety.proofs.runs.Dates.{Dated}
-use Rattle.sctp_safety.proofs.runs.DatedBags.{Dates, dated_bag, AreKept}
+use Rattle.sctp_safety.proofs.runs.DatedBags.{Dates, AreKept}
 use Rattle.sctp_safety.proofs.runs.Dating.{dates_of, AllKept, kept_in_time}
 use Rattle.sctp_safety.proofs.runs.Direction.{Direction, way_of, entry_there}
 use Rattle.sctp_safety.proofs.runs.MetSteps.{met_step}
-use Rattle.sctp_safety.proofs.runs.MetWorld.{IsMetWorld, MetAt, at_side}
+use Rattle.sctp_safety.proofs.runs.MetWorld.{IsMetWorld, at_side}
 use Rattle.sctp_safety.proofs.runs.ResetFacts.{IsOpen, IsNoted}
 use Rattle.sctp_safety.proofs.runs.Safety.{IsKept, IsSteady, set_up, steady_step, kept_start}
 use Rattle.sctp_safety.proofs.runs.ApartWorld.{IsApartWorld}

@@ -2,13 +2,11 @@
 use Rattle.std.proofs.Common.{◌≡◌, ℕ, ◌&&◌, ◌||◌, not, Bool, true, false, List, Option, Some, None, refl, sym, ap, ◌∙◌}
 use Rattle.std.specs.Prelude.{◌==◌, if◌then◌else◌}
 use Rattle.sctp_model.specs.wire.Chunk.{ChunkMeaning}
-use Rattle.sctp_model.specs.wire.Reconfig.{ResetResult}
 use Rattle.sctp_model.specs.world.Calls.{Call}
 use Rattle.sctp_model.specs.sender.SenderView.{SenderView}
 use Rattle.sctp_model.specs.sender.Resetting.{may_ask}
 use Rattle.sctp_model.specs.sender.Readers.{point}
 use Rattle.sctp_model.specs.sender.Abandoning.{abandon_after}
-use Rattle.sctp_model.specs.receiver.Incoming.{Incoming, Waited}
 use Rattle.sctp_model.specs.receiver.ReceiverView.{Handed, ReceiverView}
 use Rattle.sctp_model.specs.receiver.SackMade.{TakeLeaves}
 use Rattle.sctp_model.specs.end.EndView.{Phase, Established, ShutdownPending, ShutdownSent, ShutdownReceived, ShutdownAckSent, Idle, Listening, Calling, Echoing, Open, Over, ResetAlarm, EndView}
