@@ -1,8 +1,9 @@
 -- That each reset of a stream is reported to the receiving application (RFC 6525, 5.2.2; RFC 8831, 6.7).
-use Rattle.std.specs.Prelude.{◌≡◌, ℕ, ◌+◌, ◌<◌, ◌≤◌, ◌⊎◌, ◌&&◌, not, Bool, true, false, List, [], ◌∷◌, slice_get, Option, Some, None, is_some}
+use Rattle.std.specs.Prelude.{◌≡◌, ℕ, ◌+◌, ◌<◌, ◌≤◌, ◌⊎◌, ◌&&◌, not, Bool, false, List, ◌∷◌, slice_get, Option, Some, None, is_some}
 use Rattle.sctp_model.specs.sender.Outgoing.{is_sending}
 use Rattle.sctp_model.specs.end.Configured.{IsConfiguration}
-use Rattle.sctp_model.specs.world.World.{Side, A, B, other, World, end_of, Setup, configuration_of, start}
+use Rattle.sctp_model.specs.end.EndView.{EndView}
+use Rattle.sctp_model.specs.world.World.{Side, other, World, end_of, Setup, configuration_of, start}
 use Rattle.sctp_model.specs.world.Events.{Event, Deliver, Foreign, Outcome}
 use Rattle.sctp_model.specs.world.Steps.{PassesThrough, last_of}
 use Rattle.sctp_model.specs.world.Aged.{Aged}
@@ -18,10 +19,14 @@ arrives_at y (Deliver s n) = same_side (other s) y
 arrives_at y (Foreign s p) = same_side s y
 arrives_at y e = false
 
--- Whenever a packet arrives there, its application has asked for the peer's resets: none of the stream is left to be reported. (Else a packet may leave two resets to be reported, which
--- are reported as one.)
+-- No reset of the stream is left to be reported at this endpoint; of a stream that isn't there none is reported.
+abbrev pub NoneIsLeft : EndView → (stream : ℕ) → Type 0
+NoneIsLeft e n = (e.receiver.resets.told n ≡ None) ⊎ (e.receiver.streams ≤ n)
+
+-- Whenever a packet arrives there, its application has asked for the peer's resets: none is left to be reported. (Else a packet may leave two resets to be reported, which are reported
+-- as one.)
 abbrev pub HearsToldOnly : Side → (stream : ℕ) → World → List Event → List World → Type 0
-HearsToldOnly y n w (e ∷ es) (v ∷ vs) = ((arrives_at y e ≡ false) ⊎ ((end_of w y).receiver.resets.told n ≡ None)) × HearsToldOnly y n v es vs
+HearsToldOnly y n w (e ∷ es) (v ∷ vs) = ((arrives_at y e ≡ false) ⊎ NoneIsLeft (end_of w y) n) × HearsToldOnly y n v es vs
 HearsToldOnly y n w es vs = Unit {0}
 
 -- ---- how often

@@ -1,15 +1,16 @@
 -- Of each stream all resets that began were reported to the peer's user, but one that is to be reported, and one that isn't done.
-use Rattle.std.proofs.Common.{◌≡◌, ℕ, ◌+◌, ◌<◌, ◌≤◌, ◌⊎◌, ◌==◌, ◌&&◌, not, is_some, Bool, true, false, List, [], ◌∷◌, Option, Some, None, inl, inr, refl, sym, subst, ap, ◌∙◌, arith}
+use Rattle.std.proofs.Common.{◌≡◌, ℕ, ◌+◌, ◌≤◌, ◌⊎◌, ◌==◌, ◌&&◌, not, is_some, Bool, true, false, List, [], ◌∷◌, Option, Some, None, inl, inr, refl, sym, subst, ap, arith}
 use Rattle.std.proofs.lemmas.Bool.{and_parts}
 use Rattle.std.proofs.lemmas.Bool.Decides.{nat_tests}
 use Rattle.sctp_model.specs.numbers.Lists.{Has, at}
 use Rattle.sctp_model.specs.wire.Packet.{Packet}
 use Rattle.sctp_model.specs.sender.Outgoing.{is_sending, Sending, Resets}
 use Rattle.sctp_model.specs.end.Configured.{IsConfiguration}
-use Rattle.sctp_model.specs.end.EndView.{EndView}
-use Rattle.sctp_model.specs.end.UserCalls.{ResetCall, Begun, NotAgreed, NoStream, reset_call, reset_leaves}
+use Rattle.sctp_model.specs.end.EndView.{Phase, Idle, Listening, Calling, Echoing, Open, Over, EndView, ended_of}
+use Rattle.sctp_model.specs.end.Closing.{hears}
+use Rattle.sctp_model.specs.end.UserCalls.{is_established, ResetCall, Begun, NotAgreed, NoStream, reset_call, reset_leaves}
 use Rattle.sctp_model.specs.world.World.{Side, A, B, other, World, end_of, with_end, Setup, configuration_of, start}
-use Rattle.sctp_model.specs.world.Events.{Event, OpenBoth, Later, Moment, At, Drawing, Connect, Build, Deliver, Foreign, Send, Abandon, Take, Reset, WasReset, Shutdown, Abort, Outcome, Done, ResetThere, reset_told}
+use Rattle.sctp_model.specs.world.Events.{Event, OpenBoth, Later, Moment, At, Drawing, Connect, Build, Deliver, Foreign, Send, Abandon, Take, Reset, WasReset, Shutdown, Abort, Outcome, ResetThere, reset_told}
 use Rattle.sctp_model.specs.world.Steps.{Step, OpensBoth, OpenRefused, TimePasses, TimeGoesOn, MomentComes, Draws, Connects, ConnectRefused, BuildsOne, BuildsNone, PacketComes, PacketCut, IsAbsent, Sends, AbandonsOne, TakesOne, ResetsOne, TellsReset, ShutsDown, AbortsIt, NoMemory, Brings, FromBag, FromStranger, NoPacket, PassesThrough, last_of}
 use Rattle.sctp_model.specs.world.Premises.{drawn_in}
 use Rattle.sctp_safety.specs.Parted.{Asks}
@@ -23,7 +24,8 @@ use Rattle.sctp_safety.proofs.runs.parted.Ongoing.{IsHeard, Delivered, Injected}
 use Rattle.sctp_safety.proofs.runs.parted.Parting.{StepResets, step_resets, steady_start, asks_met, asks_shut}
 use Rattle.sctp_outcomes.specs.Users.{same_side, sent_by}
 use Rattle.sctp_outcomes.specs.Parted.{is_reset, is_reported, one_if, count_of}
-use Rattle.sctp_outcomes.specs.AllReported.{arrives_at, HearsToldOnly, begins_reset, resets_begun, to_report, under_way, ResetsAreAllReported}
+use Rattle.sctp_outcomes.proofs.users.ReportedOnce.{side_is}
+use Rattle.sctp_outcomes.specs.AllReported.{arrives_at, NoneIsLeft, HearsToldOnly, begins_reset, resets_begun, to_report, under_way, ResetsAreAllReported}
 
 -- ---- events
 
@@ -35,6 +37,13 @@ same_self B = refl
 pub heard_quiet : (x : Side) (n : ℕ) (e : Event) (o : Option Outcome) → IsHeard x e → (is_reset x n e o ≡ false) × ((is_reported (other x) n e o ≡ false) × (arrives_at (other x) e ≡ true))
 heard_quiet x n e o (Delivered k) = (refl, (refl, same_self (other x)))
 heard_quiet x n e o (Injected p) = (refl, (refl, same_self (other x)))
+
+-- a packet that arrives finds no reset of a stream that is there to be reported
+pub none_heard : (x : Side) (n : ℕ) (w : World) (e : Event) → IsHeard x e → n < (end_of w (other x)).receiver.streams → (arrives_at (other x) e ≡ false) ⊎ NoneIsLeft (end_of w (other x)) n →
+    (end_of w (other x)).receiver.resets.told n ≡ None
+none_heard x n w e heard there (inl off) = absurd (let on = (heard_quiet x n e None heard).1.1 in cc (off, on))
+none_heard x n w e heard there (inr (inl none)) = none
+none_heard x n w e heard there (inr (inr beyond)) = absurd (omega (arith, there, beyond))
 
 -- a reset that was to be reported is, by this event
 pub reports_it : (y : Side) (n k : ℕ) (e : Event) (o : Option Outcome) → e ≡ WasReset y → o ≡ Some (ResetThere n k) → is_reported y n e o ≡ true
@@ -51,7 +60,7 @@ packet_off w e z p (FromStranger _ _ _) x n o = refl
 packet_off w e z p (NoPacket _) x n o = refl
 
 -- nor does an allocation failure
-none_off : (e : Event) (x : Side) (n : ℕ) → is_reset x n e None ≡ false
+pub none_off : (e : Event) (x : Side) (n : ℕ) → is_reset x n e None ≡ false
 none_off (OpenBoth a b) x n = refl
 none_off (Later s m) x n = refl
 none_off (Moment s) x n = refl
@@ -72,8 +81,32 @@ none_off (Abort s r) x n = refl
 same_at : (f : ℕ → Sending) (i : ℕ) (z : Sending) → at f i z i ≡ z
 same_at f i z = let number : (i == i) ≡ true = grind (arith, nat_tests) in rw number refl
 
-pub reset_shuts : (w : World) (e : Event) (o : Option Outcome) (v : World) → Step w e o v → (x : Side) (n : ℕ) → is_reset x n e o ≡ true →
-    (is_sending ((end_of v x).sender.resets.sending n) ≡ false) × (sent_by x e o ≡ [])
+-- an established endpoint isn't over
+established_lives : (h : Phase) → hears is_established h ≡ true → ended_of h ≡ None
+established_lives Idle on = refl
+established_lives Listening on = refl
+established_lives (Calling d) on = refl
+established_lives (Echoing t xs) on = refl
+established_lives (Open t g) on = refl
+established_lives (Over why) on = absurd (cc)
+
+begun_lives : (e : EndView) (m : ℕ) → reset_call e m ≡ Begun → ended_of e.phase ≡ None
+begun_lives e m is = go e.terms.reset (hears is_established e.phase) refl is
+  where
+    go : (a b : Bool) → hears is_established e.phase ≡ b → (if not (a && b) then NotAgreed else if nat_le e.sender.streams m then NoStream else Begun) ≡ Begun → ended_of e.phase ≡ None
+    go true true on begun = established_lives e.phase on
+    go true false off begun = absurd (cc)
+    go false b any begun = absurd (cc)
+
+-- an accepted reset: it is that call, at an endpoint that lives; it shuts its stream, and is no message
+pub record IsAccepted (x : Side) (n : ℕ) (w : World) (e : Event) (o : Option Outcome) (v : World) : Type 0 where
+  pub call : e ≡ Reset x n
+  pub answer : o ≡ Some Done
+  pub alive : ended_of (end_of w x).phase ≡ None
+  pub shut : is_sending ((end_of v x).sender.resets.sending n) ≡ false
+  pub silent : sent_by x e o ≡ []
+
+pub reset_shuts : (w : World) (e : Event) (o : Option Outcome) (v : World) → Step w e o v → (x : Side) (n : ℕ) → is_reset x n e o ≡ true → IsAccepted x n w e o v
 reset_shuts w e o v (OpensBoth _ _ _ _ _ _) x n on = absurd (cc)
 reset_shuts w e o v (OpenRefused _ _ _) x n on = absurd (cc)
 reset_shuts w e o v (TimeGoesOn z m small) x n on = absurd (cc)
@@ -90,7 +123,7 @@ reset_shuts w e o v (IsAbsent z i none) x n on = absurd (cc)
 reset_shuts w e o v (Sends z c) x n on = absurd (cc)
 reset_shuts w e o v (AbandonsOne z i) x n on = absurd (cc)
 reset_shuts w e o v (TakesOne z m h t takes) x n on = absurd (cc)
-reset_shuts w e o v (ResetsOne z m) x n on = (by (reset_call (end_of w z) m) on, refl)
+reset_shuts w e o v (ResetsOne z m) x n on = by (reset_call (end_of w z) m) refl on
   where
     after : (z x : Side) → same_side z x ≡ true → (t : EndView) → end_of (with_end w z t) x ≡ t
     after A A on t = refl
@@ -98,15 +131,23 @@ reset_shuts w e o v (ResetsOne z m) x n on = (by (reset_call (end_of w z) m) on,
     after A B on t = absurd (cc)
     after B A on t = absurd (cc)
 
-    by : (a : ResetCall) → is_reset x n (Reset z m) (Some (reset_told a)) ≡ true → is_sending ((end_of (with_end w z (reset_leaves a (end_of w z) m)) x).sender.resets.sending n) ≡ false
-    by Begun h =
+    by : (a : ResetCall) → reset_call (end_of w z) m ≡ a → is_reset x n (Reset z m) (Some (reset_told a)) ≡ true →
+        IsAccepted x n w (Reset z m) (Some (reset_told a)) (with_end w z (reset_leaves a (end_of w z) m))
+    by Begun is h =
         let parts = and_parts (same_side z x) (n == m) h in
         let same : n ≡ m = (let q = parts.1 in grind (arith, nat_tests, q)) in
-        subst (λ (t : EndView). is_sending (t.sender.resets.sending n) ≡ false) (sym (after z x parts.0 (reset_leaves Begun (end_of w z) m)))
-        (subst (λ (i : ℕ). is_sending (at (end_of w z).sender.resets.sending i Resets n) ≡ false) same
-        (ap is_sending (same_at (end_of w z).sender.resets.sending n Resets)))
-    by NotAgreed h = absurd (cc)
-    by NoStream h = absurd (cc)
+        let side : z ≡ x = side_is z x parts.0 in
+        record {
+          call = ap (λ (y : Side). Reset y m) side ∙ ap (Reset x) (sym same);
+          answer = refl;
+          alive = subst (λ (y : Side). ended_of (end_of w y).phase ≡ None) side (begun_lives (end_of w z) m is);
+          shut = subst (λ (t : EndView). is_sending (t.sender.resets.sending n) ≡ false) (sym (after z x parts.0 (reset_leaves Begun (end_of w z) m)))
+              (subst (λ (i : ℕ). is_sending (at (end_of w z).sender.resets.sending i Resets n) ≡ false) same
+              (ap is_sending (same_at (end_of w z).sender.resets.sending n Resets)));
+          silent = refl;
+        }
+    by NotAgreed is h = absurd (cc)
+    by NoStream is h = absurd (cc)
 reset_shuts w e o v (TellsReset z) x n on = absurd (cc)
 reset_shuts w e o v (ShutsDown z) x n on = absurd (cc)
 reset_shuts w e o v (AbortsIt z why) x n on = absurd (cc)
@@ -130,7 +171,7 @@ module _ (x : Side) (n : ℕ) where
     pub noted : Noted w → begun ≤ reported + waiting w
 
   module _ (d : Dates) (t a : ℕ) (w v : World) (e : Event) (o : Option Outcome) (r : StepResets d x n w e o v) (step : Step w e o v)
-      (told : (arrives_at (other x) e ≡ false) ⊎ ((end_of w (other x)).receiver.resets.told n ≡ None))
+      (told : (arrives_at (other x) e ≡ false) ⊎ NoneIsLeft (end_of w (other x)) n)
       (shut : IsNoted (end_of w x).sender (end_of w (other x)).receiver n → is_sending ((end_of w x).sender.resets.sending n) ≡ false)
       (asks_off : Asks (end_of w x).sender n → is_sending ((end_of w x).sender.resets.sending n) ≡ false) (c : Covers t a w) where
     abbrev pub report : ℕ
@@ -169,7 +210,7 @@ module _ (x : Side) (n : ℕ) where
     within_now true begins f after =
         let both = and_parts (is_reset x n e o) (is_sending ((end_of w x).sender.resets.sending n)) begins in
         let was = open_off w both.1 in
-        let now = open_on v (reset_shuts w e o v step x n both.0).0 in
+        let now = open_on v (reset_shuts w e o v step x n both.0).shut in
         let low = c.within in
         let s = stays in
         let one : one_if true ≡ 1 = refl in
@@ -189,19 +230,18 @@ module _ (x : Side) (n : ℕ) where
     noted_now : Noted v → a + one_if (begins_reset x n w e o) ≤ (t + report) + waiting v
     noted_now k = elim (r.performed k) [
       | inl before ↦ let low = c.noted before in let s = stays in let none = begins_not (shut before) in omega (arith, low, s, none)
-      | inr (heard, (met, (asks, on))) ↦
+      | inr (heard, (met, (asks, (on, there)))) ↦
           let off = asks_off asks in
           let was = open_on w off in
           let none = begins_not off in
           let now : waiting v ≡ 1 = ap one_if on in
-          let empty = untold heard told in
+          let empty = untold heard there told in
           let low = c.within in
           omega (arith, was, none, now, empty, low)
     ]
       where
-        untold : IsHeard x e → (arrives_at (other x) e ≡ false) ⊎ ((end_of w (other x)).receiver.resets.told n ≡ None) → waiting w ≡ 0
-        untold heard (inl off) = absurd (let on = (heard_quiet x n e o heard).1.1 in cc (off, on))
-        untold heard (inr none) = ap (λ (q : Option ℕ). one_if (is_some q)) none
+        untold : IsHeard x e → n < (end_of w (other x)).receiver.streams → (arrives_at (other x) e ≡ false) ⊎ NoneIsLeft (end_of w (other x)) n → waiting w ≡ 0
+        untold heard there left = ap (λ (q : Option ℕ). one_if (is_some q)) (none_heard x n w e heard there left)
 
     pub covered : Covers (t + report) (a + one_if (begins_reset x n w e o)) v
     covered = record {

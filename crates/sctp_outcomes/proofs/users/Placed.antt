@@ -4,7 +4,6 @@ use Rattle.std.specs.Prelude.{unwrap_or}
 use Rattle.std.proofs.lemmas.Bool.{cases_lt}
 use Rattle.std.proofs.lemmas.List.{append_assoc}
 use Rattle.sctp_model.specs.numbers.Lists.{Has}
-use Rattle.sctp_model.specs.receiver.ReceiverView.{Handed, handed}
 use Rattle.sctp_model.specs.sender.Outgoing.{is_sending}
 use Rattle.sctp_model.specs.end.Configured.{IsConfiguration}
 use Rattle.sctp_model.specs.world.World.{Side, other, World, end_of, Setup, configuration_of, start}
@@ -17,16 +16,15 @@ use Rattle.sctp_model.specs.world.Premises.{drawn_in}
 use Rattle.sctp_safety.proofs.runs.Dating.{dates_of, AllKept}
 use Rattle.sctp_safety.proofs.runs.MetWorld.{IsMetWorld}
 use Rattle.sctp_safety.proofs.runs.ResetFacts.{IsNoted}
-use Rattle.sctp_safety.proofs.runs.Safety.{IsSteady}
 use Rattle.sctp_safety.proofs.runs.parted.Ongoing.{IsHeard}
 use Rattle.sctp_safety.proofs.runs.parted.Parting.{StepResets, step_resets}
 use Rattle.sctp_outcomes.specs.Users.{Sent, sent_by, sent, taken_by, taken, Match}
-use Rattle.sctp_outcomes.specs.Parted.{is_reset, is_reported, ResetAfter, IsTold, place_of, TakesToldOnly}
-use Rattle.sctp_outcomes.specs.AllReported.{arrives_at, HearsToldOnly, WasReported, IsToBe, IsReportedAt, LiesBetween, ResetsHavePlaces}
-use Rattle.sctp_outcomes.proofs.users.AllReported.{heard_quiet, reset_shuts, asked_for, asks_off}
+use Rattle.sctp_outcomes.specs.Parted.{is_reset, ResetAfter, IsTold, place_of, TakesToldOnly}
+use Rattle.sctp_outcomes.specs.AllReported.{arrives_at, NoneIsLeft, HearsToldOnly, WasReported, IsToBe, IsReportedAt, LiesBetween, ResetsHavePlaces}
+use Rattle.sctp_outcomes.proofs.users.AllReported.{heard_quiet, none_heard, reset_shuts, asked_for, asks_off}
 use Rattle.sctp_outcomes.proofs.users.Noted.{step_noted}
 use Rattle.sctp_outcomes.proofs.users.Runs.{AreNumbered}
-use Rattle.sctp_outcomes.proofs.users.Parted.{numbered_upto, has_either, IsShut, IsMarked, Inv, With, Covers, marked_map, map_counts, new, new_numbered, none_new, marked_on, marked_now, inv_step, Under, under_step}
+use Rattle.sctp_outcomes.proofs.users.Parted.{numbered_upto, has_either, IsShut, IsMarked, Inv, With, Covers, marked_map, map_counts, new_numbered, none_new, marked_on, marked_now, inv_step, Under, under_step}
 use Rattle.sctp_outcomes.proofs.users.PartedRuns.{step_tells, some_told, start_untold, start_taken, all, matched, fine, kept, marked_new, marked_old, inv_start}
 
 -- ---- lists
@@ -135,7 +133,7 @@ module _ (s : Setup) (drawn : List ℕ) (within : (x : Side) → IsConfiguration
 
   module _ (R T : ℕ → Type 0) (ss : List Sent) (w : World) (i : Inv s drawn within d x n R ss w) (k : Deals R T ss w) (took : ℕ) (is_took : length ((end_of w (other x)).receiver.taken n) ≡ took)
       (e : Event) (o : Option Outcome) (v : World) (dates : AreKept d w e v) (fine : IsFine s drawn e) (step : Step w e o v)
-      (in_time : (arrives_at (other x) e ≡ false) ⊎ ((end_of w (other x)).receiver.resets.told n ≡ None))
+      (in_time : (arrives_at (other x) e ≡ false) ⊎ NoneIsLeft (end_of w (other x)) n)
       (takes : (taken_by (other x) n e o ≡ []) ⊎ ((end_of v (other x)).receiver.resets.told n ≡ None)) where
     abbrev pub Q : ℕ → Type 0
     Q = With s drawn within d x n R ss e o
@@ -173,10 +171,6 @@ module _ (s : Setup) (drawn : List ℕ) (within : (x : Side) → IsConfiguration
     both_last : (c j : ℕ) → c ≤ length ss → j ≤ length ss → IsLast ss c → IsLast ss j → IsAlike ss c j
     both_last c j low high one two = record { first = λ y has on le. two y has on; second = λ y has on le. one y has on; low = low; high = high }
 
-    -- a packet finds nothing to be reported
-    none_left : IsHeard x e → (end_of w (other x)).receiver.resets.told n ≡ None
-    none_left heard = elim in_time [ inl off ↦ absurd (let on = (heard_quiet x n e o heard).1.1 in cc (off, on)) | inr none ↦ none ]
-
     -- what was to be reported is so still, or is reported
     told_on : (p : ℕ) → (end_of w (other x)).receiver.resets.told n ≡ Some p → ((end_of v (other x)).receiver.resets.told n ≡ Some p) ⊎ U p
     told_on p was = elim (resets.kept (ap is_some was)) [
@@ -199,7 +193,7 @@ module _ (s : Setup) (drawn : List ℕ) (within : (x : Side) → IsConfiguration
           | inl before ↦ now ∙ ap (λ (j : ℕ). Some j) (one_told c p ((end_of w (other x)).receiver.resets.told n) before was)
           | inr (known, unknown, on) ↦ elim (resets.performed known) [
             | inl before ↦ absurd (unknown before)
-            | inr (heard, more_known) ↦ absurd (let none = none_left heard in cc (none, was))
+            | inr (heard, (_, (_, (_, there)))) ↦ absurd (let none = none_heard x n w e heard there in_time in cc (none, was))
           ]
         ]
 
@@ -215,7 +209,7 @@ module _ (s : Setup) (drawn : List ℕ) (within : (x : Side) → IsConfiguration
 
     -- no message is accepted in the event of a reset
     no_more : is_reset x n e o ≡ true → (y : Sent) → Has more y → ⊥
-    no_more on y has = absurd (subst (λ (ys : List Sent). Has ys y) (reset_shuts w e o v step x n on).1 has)
+    no_more on y has = absurd (subst (λ (ys : List Sent). Has ys y) (reset_shuts w e o v step x n on).silent has)
 
     each_now : (c : ℕ) → Q c → ((is_sending ((end_of v x).sender.resets.sending n) ≡ false) × IsLast (ss ++ more) c) ⊎ IsPlaced Q U (ss ++ more) c v
     each_now c (inl before) = by (k.each c before) (is_sending ((end_of v x).sender.resets.sending n)) refl
@@ -228,7 +222,7 @@ module _ (s : Setup) (drawn : List ℕ) (within : (x : Side) → IsConfiguration
           | inl on ↦ absurd (cc (on, off))
           | inr known ↦ inr (placed_on c (k.noted known c before))
         ]
-    each_now c (inr (on, count)) = inl ((reset_shuts w e o v step x n on).0, λ y has stream. elim (has_either ss more y has) [
+    each_now c (inr (on, count)) = inl ((reset_shuts w e o v step x n on).shut, λ y has stream. elim (has_either ss more y has) [
       | inl old ↦ let low = numbered_upto 0 ss y i.numbered old in omega (arith, low, count)
       | inr late ↦ absurd (no_more on y late)
     ])
@@ -238,8 +232,8 @@ module _ (s : Setup) (drawn : List ℕ) (within : (x : Side) → IsConfiguration
     given_now c (inr (on, count)) = let l = longer in omega (arith, count, l)
 
     -- one is performed now
-    placed_now : IsHeard x e → IsMetWorld d w → Asks (end_of w x).sender n → is_some ((end_of v (other x)).receiver.resets.told n) ≡ true → (c : ℕ) → R c → IsLast ss c → IsPlaced Q U (ss ++ more) c v
-    placed_now heard met asks on c before last = by (some_told ((end_of v (other x)).receiver.resets.told n) on)
+    placed_now : IsHeard x e → n < (end_of w (other x)).receiver.streams → IsMetWorld d w → Asks (end_of w x).sender n → is_some ((end_of v (other x)).receiver.resets.told n) ≡ true → (c : ℕ) → R c → IsLast ss c → IsPlaced Q U (ss ++ more) c v
+    placed_now heard there met asks on c before last = by (some_told ((end_of v (other x)).receiver.resets.told n) on)
       where
         off : is_sending ((end_of w x).sender.resets.sending n) ≡ false
         off = asks_off x n s drawn within d w i.steady asks
@@ -249,7 +243,7 @@ module _ (s : Setup) (drawn : List ℕ) (within : (x : Side) → IsConfiguration
 
         by : (p : ℕ) × ((end_of v (other x)).receiver.resets.told n ≡ Some p) → IsPlaced Q U (ss ++ more) c v
         by (p, now) = elim (resets.told p now) [
-          | inl was ↦ absurd (let none = none_left heard in cc (none, was))
+          | inl was ↦ absurd (let none = none_heard x n w e heard there in_time in cc (none, was))
           | inr (_, (_, count)) ↦
               let m = marked_now s drawn within d x n R ss w i e o v dates fine step p met asks count shut in
               record {
@@ -281,15 +275,16 @@ module _ (s : Setup) (drawn : List ℕ) (within : (x : Side) → IsConfiguration
     noted_now : IsNoted (end_of v x).sender (end_of v (other x)).receiver n → (c : ℕ) → Q c → IsPlaced Q U (ss ++ more) c v
     noted_now known c q = by (resets.performed known) q
       where
-        by : IsNoted (end_of w x).sender (end_of w (other x)).receiver n ⊎ (IsHeard x e × (IsMetWorld d w × (Asks (end_of w x).sender n × (is_some ((end_of v (other x)).receiver.resets.told n) ≡ true)))) → Q c →
+        by : IsNoted (end_of w x).sender (end_of w (other x)).receiver n ⊎
+            (IsHeard x e × (IsMetWorld d w × (Asks (end_of w x).sender n × ((is_some ((end_of v (other x)).receiver.resets.told n) ≡ true) × (n < (end_of w (other x)).receiver.streams))))) → Q c →
             IsPlaced Q U (ss ++ more) c v
         by (inl was) (inl before) = placed_on c (k.noted was c before)
         by (inl was) (inr (on, count)) = same_one was c count
-        by (inr (heard, (met, (asks, told)))) (inl before) = elim (k.each c before) [
-          | inl (off, last) ↦ placed_now heard met asks told c before last
+        by (inr (heard, (met, (asks, (told, there))))) (inl before) = elim (k.each c before) [
+          | inl (off, last) ↦ placed_now heard there met asks told c before last
           | inr placed ↦ placed_on c placed
         ]
-        by (inr (heard, (met, (asks, told)))) (inr (on, count)) = absurd (let off = (heard_quiet x n e o heard).0 in cc (off, on))
+        by (inr (heard, rest)) (inr (on, count)) = absurd (let off = (heard_quiet x n e o heard).0 in cc (off, on))
 
     pub deals_step : Deals Q U (ss ++ more) v
     deals_step = record {

@@ -118,9 +118,9 @@ pub record GoesOnBy (x : Side) (e : Event) (o : Option Outcome) (a : SenderView)
   pub noted : (s : ℕ) → IsNoted a r s → is_resetting (b.resets.sending s) ≡ true → IsNoted b t s
   -- a stream that takes messages took them, or its reset was noted
   pub freed : (s : ℕ) → is_sending (b.resets.sending s) ≡ true → (is_sending (a.resets.sending s) ≡ true) ⊎ IsNoted a r s
-  -- what is to be reported stays so until it is reported; and what is noted anew is to be reported, by a packet
+  -- what is to be reported stays so until it is reported; and what is noted anew is to be reported, by a packet, at which the sender does nothing
   pub kept : (s : ℕ) → is_some (r.resets.told s) ≡ true → (is_some (t.resets.told s) ≡ true) ⊎ ((k : ℕ) × (e ≡ WasReset (other x)) × (o ≡ Some (ResetThere s k)))
-  pub performed : (s : ℕ) → IsNoted b t s → IsNoted a r s ⊎ (IsHeard x e × (Asks a s × (is_some (t.resets.told s) ≡ true)))
+  pub performed : (s : ℕ) → IsNoted b t s → IsNoted a r s ⊎ (IsHeard x e × ((b ≡ a) × (Asks a s × (is_some (t.resets.told s) ≡ true))))
 
 -- ---- worlds
 
@@ -192,7 +192,7 @@ module _ (s : Setup) (drawn : List ℕ) (d : Dates) (w : World) (opening : IsOpe
           kept = λ k on. inl (l.receiver.kept k on);
           performed = λ k h. elim (l.receiver.back k h) [
             | inl before ↦ inl before
-            | inr new ↦ elim how [ inl heard ↦ inr (heard, new) | inr quiet ↦ inl (quiet_noted (end_of w x).sender (end_of w (other x)).receiver t.receiver k quiet h) ]
+            | inr new ↦ elim how [ inl heard ↦ inr (heard, (refl, new)) | inr quiet ↦ inl (quiet_noted (end_of w x).sender (end_of w (other x)).receiver t.receiver k quiet h) ]
           ];
         }))
 

@@ -1,9 +1,12 @@
 -- Once a request for a stream waits, what is delivered anew on that stream was accepted later.
-use Rattle.std.proofs.Common.{◌≡◌, ℕ, zero, suc, ◌<◌, ◌≤◌, ◌⊎◌, true, false, List, [], ◌∷◌, ◌++◌, length, length-append, Option, Some, None, is_some, inl, inr, refl, sym, subst, ap, ◌∙◌, arith}
+use Rattle.std.proofs.Common.{◌≡◌, ℕ, zero, suc, ◌<◌, ◌≤◌, ◌⊎◌, true, false, List, [], ◌∷◌, ◌++◌, length, length-append, Option, Some, None, is_some, inl, inr, refl, sym, subst, ap, ◌∙◌, arith, nat_le, ◌==◌}
+use Rattle.std.specs.List.{list_any}
+use Rattle.std.proofs.lemmas.Bool.{or_parts, or_cases}
+use Rattle.std.proofs.lemmas.Bool.Decides.{nat_tests}
 use Rattle.sctp_model.specs.numbers.Lists.{Has, AreInOrder}
 use Rattle.sctp_model.specs.messages.Format.{Format, Ordered, Lane, ordered_lane}
 use Rattle.sctp_model.specs.messages.Plan.{Message, bytes_of, Entry, Part, End, Plan, entry_at, message_at, IsClosed, IsOf}
-use Rattle.sctp_model.specs.sender.Outgoing.{Sending, Sends, Resets, Refuses, is_sending, is_resetting}
+use Rattle.sctp_model.specs.sender.Outgoing.{Sending, Sends, Resets, Refuses, is_sending, is_resetting, lists}
 use Rattle.sctp_model.specs.sender.SenderView.{Queued, SenderView}
 use Rattle.sctp_model.specs.sender.Entries.{entry_lane}
 use Rattle.sctp_model.specs.receiver.ReceiverView.{Handed, ReceiverView, handed, Reaches}
@@ -189,6 +192,16 @@ module _ (s : Setup) (drawn : List ℕ) (within : (x : Side) → IsConfiguration
 
 -- ---- one step
 
+-- a stream of a list whose streams are there
+listed_below : (m : ℕ) (xs : List ℕ) {k : ℕ} → list_any (nat_le m) xs ≡ false → lists xs k ≡ true → k < m
+listed_below m [] none on = absurd (cc)
+listed_below m (x ∷ xs) {k} none on =
+    let both = or_parts (nat_le m x) (list_any (nat_le m) xs) none in
+    elim (or_cases (x == k) (lists xs k) on) [
+      | inl own ↦ let low = both.0 in grind (arith, nat_tests, low, own)
+      | inr behind ↦ listed_below m xs both.1 behind
+    ]
+
 -- what a step leaves of the resets of a stream, one way
 pub record StepResets (d : Dates) (x : Side) (n : ℕ) (w : World) (e : Event) (o : Option Outcome) (v : World) : Type 0 where
   -- a stream that takes no message took none before, or is reset now
@@ -205,11 +218,11 @@ pub record StepResets (d : Dates) (x : Side) (n : ℕ) (w : World) (e : Event) (
       (IsNoted (end_of v x).sender (end_of v (other x)).receiver n × (IsNoted (end_of w x).sender (end_of w (other x)).receiver n → ⊥) × (is_resetting ((end_of w x).sender.resets.sending n) ≡ true))
   -- a stream that takes messages took them, or its reset was noted
   pub freed : is_sending ((end_of v x).sender.resets.sending n) ≡ true → (is_sending ((end_of w x).sender.resets.sending n) ≡ true) ⊎ IsNoted (end_of w x).sender (end_of w (other x)).receiver n
-  -- what is to be reported stays so until it is reported; and what is noted anew is to be reported, by a packet
+  -- what is to be reported stays so until it is reported; and what is noted anew is to be reported, by a packet, and of a stream that is there
   pub kept : is_some ((end_of w (other x)).receiver.resets.told n) ≡ true →
       (is_some ((end_of v (other x)).receiver.resets.told n) ≡ true) ⊎ ((k : ℕ) × (e ≡ WasReset (other x)) × (o ≡ Some (ResetThere n k)))
   pub performed : IsNoted (end_of v x).sender (end_of v (other x)).receiver n → IsNoted (end_of w x).sender (end_of w (other x)).receiver n ⊎
-      (IsHeard x e × (IsMetWorld d w × (Asks (end_of w x).sender n × (is_some ((end_of v (other x)).receiver.resets.told n) ≡ true))))
+      (IsHeard x e × (IsMetWorld d w × (Asks (end_of w x).sender n × ((is_some ((end_of v (other x)).receiver.resets.told n) ≡ true) × (n < (end_of w (other x)).receiver.streams)))))
 
 module _ (s : Setup) (drawn : List ℕ) (within : (x : Side) → IsConfiguration (configuration_of s x)) (d : Dates) where
   -- a request that waits has shut its streams
@@ -253,7 +266,7 @@ module _ (s : Setup) (drawn : List ℕ) (within : (x : Side) → IsConfiguration
         anew = λ c is. anew c (goes.told n c is);
         freed = goes.freed n;
         kept = goes.kept n;
-        performed = λ h. elim (goes.performed n h) [ inl before ↦ inl before | inr new ↦ inr (new.0, (met, new.1)) ];
+        performed = λ h. elim (goes.performed n h) [ inl before ↦ inl before | inr new ↦ inr (new.0, (met, (new.1.1.0, (new.1.1.1, there h new.1.0)))) ];
       }
         where
           goes : StepGoes x w e o v
@@ -271,6 +284,19 @@ module _ (s : Setup) (drawn : List ℕ) (within : (x : Side) → IsConfiguration
 
           later : IsMetWorld d v
           later = met_step s drawn d w opening met e o v dates fine step
+
+          -- the stream is one of those that both agreed on
+          there : IsNoted (end_of v x).sender (end_of v (other x)).receiver n → (end_of v x).sender ≡ (end_of w x).sender → n < (end_of w (other x)).receiver.streams
+          there h same =
+              let before = (at_side d w x met.met).met.going in
+              let after = (at_side d v x later.met).met.going in
+              let a = before.outbound in
+              let b = before.inbound in
+              let c = after.outbound in
+              let e = after.inbound in
+              let k = ap (λ (y : SenderView). y.streams) same in
+              let low = listed_below (end_of v (other x)).receiver.streams h.request.streams h.there h.named in
+              omega (arith, a, b, c, e, k, low)
 
           told : (c : ℕ) → ((end_of w (other x)).receiver.resets.told n ≡ Some c) ⊎ (((end_of v x).sender ≡ (end_of w x).sender) × IsPerformed (end_of w x).sender (end_of w (other x)).receiver (end_of v (other x)).receiver n c) →
               ((end_of w (other x)).receiver.resets.told n ≡ Some c) ⊎ (IsMetWorld d w × (Asks (end_of w x).sender n × (c ≡ length (handed (end_of w (other x)).receiver n))))
