@@ -36,4 +36,5 @@ pub mod Places
 pub mod Keeping
 pub mod ToldPlaces
 pub mod OneChannel
+pub mod TwoChannels
 pub mod UpcomingLemmas

@@ -1,8 +1,8 @@
 -- What is told on a stream between two closings is of one channel: no reset by the peer's user lies in it (RFC 8831, 6.7).
-use Rattle.std.specs.Prelude.{◌≡◌, ℕ, ◌<◌, ◌≤◌, min, max, List, ◌++◌, length, Option, Some, None, slice_get}
+use Rattle.std.specs.Prelude.{◌≡◌, ℕ, ◌<◌, ◌≤◌, min, max, List, [], ◌∷◌, ◌++◌, length, map, Option, Some, None, slice_get}
 use Rattle.sctp_model.specs.numbers.Lists.{Has}
 use Rattle.sctp_model.specs.end.Configured.{IsConfiguration}
-use Rattle.sctp_model.specs.world.World.{Side, other, World, end_of, Setup, configuration_of, start}
+use Rattle.sctp_model.specs.world.World.{Side, A, B, other, World, end_of, Setup, configuration_of, start}
 use Rattle.sctp_model.specs.world.Events.{Event, Outcome}
 use Rattle.sctp_model.specs.world.Steps.{PassesThrough, last_of}
 use Rattle.sctp_model.specs.world.Aged.{Aged}
@@ -13,7 +13,7 @@ use Rattle.sctp_outcomes.specs.AllReported.{HearsToldOnly}
 use Rattle.sctp_dcep.specs.Content.{Content, content_of}
 use Rattle.sctp_channels.specs.declared.table.DtlsRole.{DtlsRole}
 use Rattle.sctp_channels.specs.Streams.{Table, fresh_table}
-use Rattle.sctp_channels.specs.Told.{Message, Closed, Report}
+use Rattle.sctp_channels.specs.Told.{Told, Message, Closed, Report}
 use Rattle.sctp_channels.specs.Events.{next_report}
 use Rattle.sctp_channels.specs.Driven.{Driven}
 
@@ -63,3 +63,22 @@ ChannelsAreOne = (s : Setup) (es : List Event) (os : List (Option Outcome)) (vs 
     × (slice_get ms (length (taken (other x) n c.events c.outcomes)) ≡ Some m)
     × (slice_get ms (length (taken (other x) n (c.events ++ c.between) (c.outcomes ++ c.answers))) ≡ Some k)
     × AreOfOne x n es os c.one c.another m k)
+
+-- It says something of runs: there is one that meets all this (and is Aged, as each run of fewer than 2^31 TSNs is), in which B's user is told two contents of stream 0, that its channel is
+-- closed, and a content of the next one. From the first of them to the second it isn't told that a channel is closed.
+pub record TwoChannelsOnAStream : Type 0 where
+  pub setup : Setup
+  pub configured : (x : Side) → IsConfiguration (configuration_of setup x)
+  pub events : List Event
+  pub outcomes : List (Option Outcome)
+  pub worlds : List World
+  pub passes : PassesThrough (start setup) events outcomes worlds
+  pub premises : FreshAndUnforged setup.sealing events
+  pub of_a of_b : DtlsRole
+  pub told_a : List Report
+  pub left_a left_b : Table
+  pub one another next : Content
+  pub driven_a : Driven A (start setup) (fresh_table of_a 1) events outcomes worlds told_a left_a
+  pub driven_b : Driven B (start setup) (fresh_table of_b 1) events outcomes worlds (map (λ (t : Told). record { stream = 0; told = t }) (Message one ∷ Message another ∷ Closed ∷ Message next ∷ [])) left_b
+  pub hears : (y : Side) (n : ℕ) → HearsToldOnly y n (start setup) events worlds
+  pub channel : IsOneChannel setup B of_b 1 0 events outcomes worlds

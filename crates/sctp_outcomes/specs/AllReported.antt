@@ -3,7 +3,7 @@ use Rattle.std.specs.Prelude.{◌≡◌, ℕ, ◌+◌, ◌<◌, ◌≤◌, ◌�
 use Rattle.sctp_model.specs.sender.Outgoing.{is_sending}
 use Rattle.sctp_model.specs.end.Configured.{IsConfiguration}
 use Rattle.sctp_model.specs.end.EndView.{EndView}
-use Rattle.sctp_model.specs.world.World.{Side, other, World, end_of, Setup, configuration_of, start}
+use Rattle.sctp_model.specs.world.World.{Side, A, B, other, World, end_of, Setup, configuration_of, start}
 use Rattle.sctp_model.specs.world.Events.{Event, Deliver, Foreign, Outcome}
 use Rattle.sctp_model.specs.world.Steps.{PassesThrough, last_of}
 use Rattle.sctp_model.specs.world.Aged.{Aged}
@@ -79,3 +79,23 @@ ResetsHavePlaces = (s : Setup) (es : List Event) (os : List (Option Outcome)) (v
     TakesToldOnly (other x) n es os vs →
     (ms : List Match) × AreMatched (exchange x n es os (last_of (start s) vs)) ms
     × ((i j count : ℕ) → LiesBetween x n es os ms i j count → (place : ℕ) × IsReportedAt x n es os (last_of (start s) vs) place × (i < place) × (place ≤ j))
+
+-- ---- a run of which both say something
+
+-- It meets FRESH and UNFORGED (and Aged, as each run of fewer than 2^31 TSNs does). B's application asks in time; a reset by A's user lies between the second message and the third that
+-- are delivered to it on stream 0, and is reported.
+pub record AResetLiesBetween : Type 0 where
+  pub setup : Setup
+  pub configured : (x : Side) → IsConfiguration (configuration_of setup x)
+  pub events : List Event
+  pub answers : List (Option Outcome)
+  pub worlds : List World
+  pub passes : PassesThrough (start setup) events answers worlds
+  pub premises : FreshAndUnforged setup.sealing events
+  pub hears : HearsToldOnly B 0 (start setup) events worlds
+  pub takes : TakesToldOnly B 0 events answers worlds
+  pub begun : resets_begun A 0 (start setup) events answers worlds ≡ 1
+  pub reported : count_of (is_reported B 0) events answers ≡ 1
+  pub matches : List Match
+  pub matched : AreMatched (exchange A 0 events answers (last_of (start setup) worlds)) matches
+  pub between : LiesBetween A 0 events answers matches 1 2 2

@@ -1,5 +1,5 @@
 -- Of each stream all resets that began were reported to the peer's user, but one that is to be reported, and one that isn't done.
-use Rattle.std.proofs.Common.{◌≡◌, ℕ, ◌+◌, ◌≤◌, ◌⊎◌, ◌==◌, ◌&&◌, not, is_some, Bool, true, false, List, [], ◌∷◌, Option, Some, None, inl, inr, refl, sym, subst, ap, arith}
+use Rattle.std.proofs.Common.{◌≡◌, ◌∙◌, ℕ, ◌+◌, ◌<◌, ◌≤◌, ◌⊎◌, ◌==◌, ◌&&◌, if◌then◌else◌, nat_le, not, is_some, Bool, true, false, List, [], ◌∷◌, Option, Some, None, inl, inr, refl, sym, subst, ap, arith}
 use Rattle.std.proofs.lemmas.Bool.{and_parts}
 use Rattle.std.proofs.lemmas.Bool.Decides.{nat_tests}
 use Rattle.sctp_model.specs.numbers.Lists.{Has, at}
@@ -10,7 +10,7 @@ use Rattle.sctp_model.specs.end.EndView.{Phase, Idle, Listening, Calling, Echoin
 use Rattle.sctp_model.specs.end.Closing.{hears}
 use Rattle.sctp_model.specs.end.UserCalls.{is_established, ResetCall, Begun, NotAgreed, NoStream, reset_call, reset_leaves}
 use Rattle.sctp_model.specs.world.World.{Side, A, B, other, World, end_of, with_end, Setup, configuration_of, start}
-use Rattle.sctp_model.specs.world.Events.{Event, OpenBoth, Later, Moment, At, Drawing, Connect, Build, Deliver, Foreign, Send, Abandon, Take, Reset, WasReset, Shutdown, Abort, Outcome, ResetThere, reset_told}
+use Rattle.sctp_model.specs.world.Events.{Event, OpenBoth, Later, Moment, At, Drawing, Connect, Build, Deliver, Foreign, Send, Abandon, Take, Reset, WasReset, Shutdown, Abort, Outcome, Done, ResetThere, reset_told}
 use Rattle.sctp_model.specs.world.Steps.{Step, OpensBoth, OpenRefused, TimePasses, TimeGoesOn, MomentComes, Draws, Connects, ConnectRefused, BuildsOne, BuildsNone, PacketComes, PacketCut, IsAbsent, Sends, AbandonsOne, TakesOne, ResetsOne, TellsReset, ShutsDown, AbortsIt, NoMemory, Brings, FromBag, FromStranger, NoPacket, PassesThrough, last_of}
 use Rattle.sctp_model.specs.world.Premises.{drawn_in}
 use Rattle.sctp_safety.specs.Parted.{Asks}
