@@ -444,7 +444,7 @@ module _ (s : Setup) (es : List Event) (os : List (Option Outcome)) (vs : List W
 
     at_second : Stands s (drawn_in es) configured d x n read1.small true i1 W2 i2 w2 c.last c.later c.others c.after
     at_second = run_stands s (drawn_in es) configured d x n read1.small true i1 W1 i1 w1 c.table c.between c.answers c.beyond c.behind c.last c.later c.others c.after c.goes_on passes_on
-        (λ e has. fine_whole e (has_back c.events (c.between ++ c.later) e (has_front c.between c.later e has))) (λ on. c.open) from_first
+        (λ e has. fine_whole e (has_back c.events (c.between ++ c.later) e (has_front c.between c.later e has))) (λ on. c.unclosed) from_first
 
     -- ---- no place lies between
 

@@ -459,10 +459,13 @@ module _ (s : Setup) (drawn : List ℕ) (within : (x : Side) → IsConfiguration
       run_stands mode B T m w (next_report (end_of w y) q).table es os vs more u fs ps us on passes fine (λ yes. rest (r ∷ []) more (unclosed yes))
       (stands_at mode B T m w q (next_report (end_of w y) q).table (es ++ fs) (os ++ ps) (vs ++ us) a (report_many (end_of w y) q) (report_tally n a.accepted a.reported (end_of w y) q a.tally)
       (subst (λ (e : EndView). Holds n T (passed_by mode B m) e (stream_at (next_report (end_of w y) q).table n)) same
-      (report_holds n small T (passed_by mode B m) (end_of w y) q a.holds (inl (ap (took n) same), elim (may_leave mode B m (r ∷ []) (λ yes. front (r ∷ []) more (unclosed yes))) [
-        | inl low ↦ inl (let e = a.taken in omega (arith, low, e))
-        | inr off ↦ inr (told_first n r (next_report (end_of w y) q).report is off)
-      ])))
+      (report_holds n small T (passed_by mode B m) (end_of w y) q a.holds (
+        inl (ap (took n) same),
+        elim (may_leave mode B m (r ∷ []) (λ yes. front (r ∷ []) more (unclosed yes))) [
+          | inl low ↦ inl (let e = a.taken in omega (arith, low, e))
+          | inr off ↦ inr (told_first n r (next_report (end_of w y) q).report is off)
+        ],
+      )))
       (λ yes. report_there n (end_of w y) q (a.channel yes) (told_first n r (next_report (end_of w y) q).report is (front (r ∷ []) more (unclosed yes)))))
   run_stands mode B T m w q es os vs rs u fs ps us (Agrees _ _ _ _ _ _ more i j ordered l is on) passes fine unclosed a =
       let z = with_channel state.Open ordered l (stream_at q i) in

@@ -2,6 +2,8 @@
 use Rattle.std.proofs.Common.{◌≡◌, ◌∙◌, ℕ, zero, suc, ◌≤◌, ◌==◌, Bool, true, false, List, [], ◌∷◌, take, drop, Option, Some, None, Ok, inl, inr, refl, sym, subst, ap, arith}
 use Rattle.std.proofs.lemmas.Bool.Decides.{nat_tests}
 use Rattle.sctp_model.specs.numbers.Lists.{Has, at}
+use Rattle.sctp_model.specs.numbers.Numbers.{u16_bytes, u32_bytes, u16_at, u32_at}
+use Rattle.sctp_model.specs.wire.Typed.{typed_of, starts_typed}
 use Rattle.sctp_model.specs.receiver.ReceiverView.{Handed}
 use Rattle.sctp_model.specs.end.EndView.{EndView}
 use Rattle.sctp_model.specs.world.World.{Side, A, B, World, end_of, start}
@@ -56,14 +58,15 @@ table role n s = record { role = role; next = n; streams = s ∷ []; thresholds 
 
 -- ---- one event of a run that drives a table
 
-module _ {y : Side} {w v : World} {x z u : Table} {e : Event} {o : Option Outcome} {es : List Event} {os : List (Option Outcome)} {vs : List World} {rs : List Report} where
-  -- it is elsewhere
-  elsewhere : is_call y e ≡ false → Driven y v x es os vs rs u → Driven y w x (e ∷ es) (o ∷ os) (v ∷ vs) rs u
-  elsewhere off more = Goes w v x x u e o es os vs [] rs (Elsewhere e o off) more
+-- it is elsewhere
+elsewhere : {y : Side} {w v : World} {x u : Table} {e : Event} {o : Option Outcome} {es : List Event} {os : List (Option Outcome)} {vs : List World} {rs : List Report} →
+    is_call y e ≡ false → Driven y v x es os vs rs u → Driven y w x (e ∷ es) (o ∷ os) (v ∷ vs) rs u
+elsewhere {y} {w} {v} {x} {u} {e} {o} {es} {os} {vs} {rs} off more = Goes w v x x u e o es os vs [] rs (Elsewhere e o off) more
 
-  -- a call of which the user is told nothing
-  calls : Moves y (end_of w y) (end_of v y) x e o [] z → Driven y v z es os vs rs u → Driven y w x (e ∷ es) (o ∷ os) (v ∷ vs) rs u
-  calls moves more = Goes w v x z u e o es os vs [] rs moves more
+-- a call of which the user is told nothing
+calls : {y : Side} {w v : World} {x z u : Table} {e : Event} {o : Option Outcome} {es : List Event} {os : List (Option Outcome)} {vs : List World} {rs : List Report} →
+    Moves y (end_of w y) (end_of v y) x e o [] z → Driven y v z es os vs rs u → Driven y w x (e ∷ es) (o ∷ os) (v ∷ vs) rs u
+calls {y} {w} {v} {x} {z} {u} {e} {o} {es} {os} {vs} {rs} moves more = Goes w v x z u e o es os vs [] rs moves more
 
 -- a channel that both agree on
 agrees : {y : Side} {w : World} {x u : Table} {es : List Event} {os : List (Option Outcome)} {vs : List World} {rs : List Report} → negotiated_choice (end_of w y) x Reliable 0 ≡ Ok 0 →
@@ -100,31 +103,39 @@ at_other f i t q off = rw off refl
 -- ---- what B is told
 
 content_1 : next_report (end_of r3 B) (table Server 0 used) ≡ record { report = Some (says_so 97); view = end_of r4 B; table = table Server 1 used }
+unfolding u16_bytes u32_bytes u16_at u32_at starts_typed typed_of
 content_1 = refl
 
 none_7 : (q : ℕ) → 1 ≤ q → (end_of r7 B).receiver.waiting q ≡ []
+unfolding u16_bytes u32_bytes u16_at u32_at starts_typed typed_of
 none_7 q low = let off : (q == 0) ≡ false = grind (arith, nat_tests, low) in rw off refl
 
 content_2 : next_report (end_of r7 B) (table Server 1 used) ≡ record { report = Some (says_so 98); view = end_of r8 B; table = table Server 1 used }
+unfolding u16_bytes u32_bytes u16_at u32_at starts_typed typed_of
 content_2 = ap (λ (o : Option ℕ). reports_turn o (end_of r7 B) (table Server 1 used)) (first_again (end_of r7 B) used none_7 refl)
 
 closed_20 : next_report (end_of r20 B) (table Server 1 (without_due left)) ≡ record { report = Some closed; view = end_of r20 B; table = table Server 1 unused }
+unfolding u16_bytes u32_bytes u16_at u32_at starts_typed typed_of
 closed_20 = refl
 
 none_23 : (q : ℕ) → 1 ≤ q → (end_of r23 B).receiver.waiting q ≡ []
+unfolding u16_bytes u32_bytes u16_at u32_at starts_typed typed_of
 none_23 q low = let off : (q == 0) ≡ false = grind (arith, nat_tests, low) in rw off refl
 
 content_3 : next_report (end_of r23 B) (table Server 1 used) ≡ record { report = Some (says_so 99); view = end_of r24 B; table = table Server 1 used }
+unfolding u16_bytes u32_bytes u16_at u32_at starts_typed typed_of
 content_3 = ap (λ (o : Option ℕ). reports_turn o (end_of r23 B) (table Server 1 used)) (first_again (end_of r23 B) used none_23 refl)
 
 -- ---- what A is told
 
 closed_18 : next_report (end_of r18 A) (table Client 0 ended) ≡ record { report = Some closed; view = end_of r18 A; table = table Client 0 unused }
+unfolding u16_bytes u32_bytes u16_at u32_at starts_typed typed_of
 closed_18 = refl
 
 -- ---- both tables
 
 driven_a : Driven A (start resetting) (fresh_table Client 1) events answers worlds (closed ∷ []) (table Client 0 used)
+unfolding u16_bytes u32_bytes u16_at u32_at starts_typed typed_of
 driven_a =
     elsewhere refl (agrees refl (calls (Says 0 1 0 (text 97) refl) (elsewhere refl (elsewhere refl (elsewhere refl (calls (Says 0 2 0 (text 98) refl) (elsewhere refl
     (elsewhere refl (elsewhere refl (elsewhere refl (elsewhere refl (calls (Closes 0 refl) (elsewhere refl (elsewhere refl (elsewhere refl (elsewhere refl (elsewhere refl
@@ -132,6 +143,7 @@ driven_a =
     (elsewhere refl (Rests r24 (table Client 0 used)))))))))))))))))))))))))))))
 
 driven_b : Driven B (start resetting) (fresh_table Server 1) events answers worlds (says_so 97 ∷ says_so 98 ∷ closed ∷ says_so 99 ∷ []) (table Server 1 used)
+unfolding u16_bytes u32_bytes u16_at u32_at starts_typed typed_of
 driven_b =
     elsewhere refl (agrees refl (elsewhere refl (elsewhere refl (elsewhere refl (takes content_1 refl (elsewhere refl (elsewhere refl (elsewhere refl (takes content_2 refl
     (elsewhere refl (elsewhere refl (elsewhere refl (elsewhere refl (elsewhere refl (calls (Notes 0 0) (calls (Resets 0 model.Done refl (inl refl)) (elsewhere refl (elsewhere
@@ -141,25 +153,48 @@ driven_b =
 -- ---- resets are noted in time
 
 left_19 : (n : ℕ) → NoneIsLeft (end_of r19 B) n
+unfolding u16_bytes u32_bytes u16_at u32_at starts_typed typed_of
 left_19 zero = inl refl
 left_19 (suc m) = inr (let one : (end_of r19 B).receiver.streams ≡ 1 = refl in omega (arith, one))
 
 left_22 : (n : ℕ) → NoneIsLeft (end_of r22 B) n
+unfolding u16_bytes u32_bytes u16_at u32_at starts_typed typed_of
 left_22 zero = inl refl
 left_22 (suc m) = inr (let one : (end_of r22 B).receiver.streams ≡ 1 = refl in omega (arith, one))
 
+hears_a_17 : (n : ℕ) → HearsToldOnly A n r16 (drop 17 events) (drop 17 worlds)
+unfolding u16_bytes u32_bytes u16_at u32_at starts_typed typed_of
+hears_a_17 n = (inr (inl refl), (inl refl, (inl refl, (inl refl, (inl refl, (inl refl, (inl refl, (inl refl, tt))))))))
+
+hears_a_9 : (n : ℕ) → HearsToldOnly A n r8 (drop 9 events) (drop 9 worlds)
+unfolding u16_bytes u32_bytes u16_at u32_at starts_typed typed_of
+hears_a_9 n = (inl refl, (inr (inl refl), (inl refl, (inl refl, (inl refl, (inl refl, (inl refl, (inl refl, hears_a_17 n))))))))
+
+hears_a : (n : ℕ) → HearsToldOnly A n (start resetting) events worlds
+unfolding u16_bytes u32_bytes u16_at u32_at starts_typed typed_of
+hears_a n = (inl refl, (inl refl, (inl refl, (inl refl, (inl refl, (inl refl, (inl refl, (inl refl, (inl refl, hears_a_9 n)))))))))
+
+hears_b_17 : (n : ℕ) → HearsToldOnly B n r16 (drop 17 events) (drop 17 worlds)
+unfolding u16_bytes u32_bytes u16_at u32_at starts_typed typed_of
+hears_b_17 n = (inl refl, (inl refl, (inl refl, (inr (left_19 n), (inl refl, (inl refl, (inr (left_22 n), (inl refl, tt))))))))
+
+hears_b_9 : (n : ℕ) → HearsToldOnly B n r8 (drop 9 events) (drop 9 worlds)
+unfolding u16_bytes u32_bytes u16_at u32_at starts_typed typed_of
+hears_b_9 n = (inl refl, (inl refl, (inl refl, (inl refl, (inr (inl refl), (inl refl, (inl refl, (inl refl, hears_b_17 n))))))))
+
+hears_b : (n : ℕ) → HearsToldOnly B n (start resetting) events worlds
+unfolding u16_bytes u32_bytes u16_at u32_at starts_typed typed_of
+hears_b n = (inl refl, (inl refl, (inl refl, (inr (inl refl), (inl refl, (inl refl, (inl refl, (inr (inl refl), (inl refl, hears_b_9 n)))))))))
+
 hears : (y : Side) (n : ℕ) → HearsToldOnly y n (start resetting) events worlds
-hears A n =
-    (inl refl, (inl refl, (inl refl, (inl refl, (inl refl, (inl refl, (inl refl, (inl refl, (inl refl, (inl refl, (inr (inl refl), (inl refl, (inl refl, (inl refl, (inl refl,
-    (inl refl, (inl refl, (inr (inl refl), (inl refl, (inl refl, (inl refl, (inl refl, (inl refl, (inl refl, (inl refl, tt)))))))))))))))))))))))))
-hears B n =
-    (inl refl, (inl refl, (inl refl, (inr (inl refl), (inl refl, (inl refl, (inl refl, (inr (inl refl), (inl refl, (inl refl, (inl refl, (inl refl, (inl refl, (inr (inl
-    refl), (inl refl, (inl refl, (inl refl, (inl refl, (inl refl, (inl refl, (inr (left_19 n), (inl refl, (inl refl, (inr (left_22 n), (inl refl, tt)))))))))))))))))))))))))
+hears A n = hears_a n
+hears B n = hears_b n
 
 -- ---- two contents of one channel
 
 -- the events until the first content is told, those until the second one is, and those behind; their answers, and worlds
 first_told : IsTelling resetting B Server 1 0 (take 4 events) (take 4 answers) (take 4 worlds) [] (table Server 0 used) (text 97)
+unfolding u16_bytes u32_bytes u16_at u32_at starts_typed typed_of
 first_told = record {
   passes = (opens, (step_1, (step_2, (step_3, tt))));
   driven = elsewhere refl (agrees refl (elsewhere refl (elsewhere refl (elsewhere refl (Rests r3 (table Server 0 used))))));
@@ -168,9 +203,11 @@ first_told = record {
 }
 
 goes_on : Driven B r3 (table Server 0 used) (take 4 (drop 4 events)) (take 4 (drop 4 answers)) (take 4 (drop 4 worlds)) (says_so 97 ∷ []) (table Server 1 used)
+unfolding u16_bytes u32_bytes u16_at u32_at starts_typed typed_of
 goes_on = takes content_1 refl (elsewhere refl (elsewhere refl (elsewhere refl (Rests r7 (table Server 1 used)))))
 
 second_told : IsTelling resetting B Server 1 0 (take 8 events) (take 8 answers) (take 8 worlds) (says_so 97 ∷ []) (table Server 1 used) (text 98)
+unfolding u16_bytes u32_bytes u16_at u32_at starts_typed typed_of
 second_told = record {
   passes = (opens, (step_1, (step_2, (step_3, (step_4, (step_5, (step_6, (step_7, tt))))))));
   driven = elsewhere refl (agrees refl (elsewhere refl (elsewhere refl (elsewhere refl goes_on))));
@@ -179,6 +216,7 @@ second_told = record {
 }
 
 is_one : IsOneChannel resetting B Server 1 0 events answers worlds
+unfolding u16_bytes u32_bytes u16_at u32_at starts_typed typed_of
 is_one = record {
   events = take 4 events;
   between = take 4 (drop 4 events);
@@ -200,7 +238,7 @@ is_one = record {
   another = text 98;
   first = first_told;
   goes_on = goes_on;
-  open = none_closed;
+  unclosed = none_closed;
   second = second_told;
 }
   where
@@ -209,6 +247,7 @@ is_one = record {
     none_closed r (inr none) same = absurd none
 
 pub two_channels_on_a_stream : TwoChannelsOnAStream
+unfolding u16_bytes u32_bytes u16_at u32_at starts_typed typed_of
 two_channels_on_a_stream = record {
   setup = resetting;
   configured = configured;

@@ -29,18 +29,27 @@ pub record IsTelling (s : Setup) (y : Side) (role : DtlsRole) (many n : ℕ) (ev
 
 -- At two places of the run a content is told of the stream, and from the first to the second the user isn't told that a channel of it is closed.
 pub record IsOneChannel (s : Setup) (y : Side) (role : DtlsRole) (many n : ℕ) (es : List Event) (os : List (Option Outcome)) (vs : List World) : Type 0 where
-  pub events between later : List Event
-  pub outcomes answers others : List (Option Outcome)
+  pub events : List Event
+  pub between : List Event
+  pub later : List Event
+  pub outcomes : List (Option Outcome)
+  pub answers : List (Option Outcome)
+  pub others : List (Option Outcome)
   pub all : es ≡ events ++ (between ++ later)
   pub answered : os ≡ outcomes ++ (answers ++ others)
-  pub worlds beyond after : List World
+  pub worlds : List World
+  pub beyond : List World
+  pub after : List World
   pub through : vs ≡ worlds ++ (beyond ++ after)
-  pub told behind : List Report
-  pub table last : Table
-  pub one another : Content
+  pub told : List Report
+  pub behind : List Report
+  pub table : Table
+  pub last : Table
+  pub one : Content
+  pub another : Content
   pub first : IsTelling s y role many n events outcomes worlds told table one
   pub goes_on : Driven y (last_of (start s) worlds) table between answers beyond behind last
-  pub open : (r : Report) → Has behind r → r ≡ record { stream = n; told = Closed } → ⊥
+  pub unclosed : (r : Report) → Has behind r → r ≡ record { stream = n; told = Closed } → ⊥
   pub second : IsTelling s y role many n (events ++ between) (outcomes ++ answers) (worlds ++ beyond) (told ++ behind) last another
 
 -- ---- what is promised
@@ -74,10 +83,14 @@ pub record TwoChannelsOnAStream : Type 0 where
   pub worlds : List World
   pub passes : PassesThrough (start setup) events outcomes worlds
   pub premises : FreshAndUnforged setup.sealing events
-  pub of_a of_b : DtlsRole
+  pub of_a : DtlsRole
+  pub of_b : DtlsRole
   pub told_a : List Report
-  pub left_a left_b : Table
-  pub one another next : Content
+  pub left_a : Table
+  pub left_b : Table
+  pub one : Content
+  pub another : Content
+  pub next : Content
   pub driven_a : Driven A (start setup) (fresh_table of_a 1) events outcomes worlds told_a left_a
   pub driven_b : Driven B (start setup) (fresh_table of_b 1) events outcomes worlds (map (λ (t : Told). record { stream = 0; told = t }) (Message one ∷ Message another ∷ Closed ∷ Message next ∷ [])) left_b
   pub hears : (y : Side) (n : ℕ) → HearsToldOnly y n (start setup) events worlds

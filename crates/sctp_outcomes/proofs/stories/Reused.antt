@@ -100,9 +100,6 @@ in_16 = record (reported in_13) { answers = [] }
 abbrev in_17 : Incoming
 in_17 = performed (receiver_back no_incoming) response_back
 
-abbrev requests : Due
-requests = record nothing_due { request = true }
-
 -- ---- each step
 
 abbrev pub r11 : World
@@ -151,7 +148,7 @@ abbrev packet_16 : Packet
 packet_16 = packet_of r15.b (reconfig_chunk response ∷ reconfig_chunk request_back ∷ [])
 
 abbrev pub r16 : World
-r16 = with_packet (with_end r15 B (with_parts r0.b tags_b requests (receiver in_16) (packet_built (end_now r15 B) 2).after)) B packet_16
+r16 = with_packet (with_end r15 B (with_parts r0.b tags_b nothing_due (receiver in_16) (packet_built (end_now r15 B) 2).after)) B packet_16
 
 pub step_16 : Step r15 (Build B) (Some (Sent 2 (size_of_packet (reconfig_chunk response ∷ reconfig_chunk request_back ∷ [])))) r16
 unfolding u16_bytes u32_bytes u16_at u32_at starts_typed typed_of
@@ -238,4 +235,3 @@ r24 = after_take r23 (taken 3 2 99)
 pub step_24 : Step r23 (Take B 0) (Some (Message (taken 3 2 99))) r24
 unfolding u16_bytes u32_bytes u16_at u32_at starts_typed typed_of
 step_24 = TakesOne B 0 (Some (taken 3 2 99)) _ (record { receiver = first_taken r23.b.receiver 0 (taken 3 2 99) []; takes = ([], refl, refl); leaves = refl })
-

@@ -1,5 +1,5 @@
 -- The run: two messages, the reset of both halves of their stream, and a message of its next channel. The reset lies between messages, and is reported.
-use Rattle.std.proofs.Common.{◌≡◌, ℕ, ◌<◌, ◌≤◌, List, [], ◌∷◌, Option, Some, None, inl, inr, refl, sym, subst, arith}
+use Rattle.std.proofs.Common.{◌≡◌, ℕ, ◌<◌, ◌≤◌, List, [], ◌∷◌, drop, Option, Some, None, inl, inr, refl, sym, subst, arith}
 use Rattle.sctp_model.specs.numbers.Lists.{Has, AreInOrder}
 use Rattle.sctp_model.specs.numbers.Numbers.{u16_bytes, u32_bytes, u16_at, u32_at}
 use Rattle.sctp_model.specs.wire.Typed.{typed_of, starts_typed}
@@ -40,25 +40,43 @@ answers =
 abbrev pub worlds : List World
 worlds = r0 ∷ r1 ∷ r2 ∷ r3 ∷ r4 ∷ r5 ∷ r6 ∷ r7 ∷ r8 ∷ r9 ∷ r10 ∷ r11 ∷ r12 ∷ r13 ∷ r14 ∷ r15 ∷ r16 ∷ r17 ∷ r18 ∷ r19 ∷ r20 ∷ r21 ∷ r22 ∷ r23 ∷ r24 ∷ []
 
+passes_17 : PassesThrough r16 (drop 17 events) (drop 17 answers) (drop 17 worlds)
+unfolding u16_bytes u32_bytes u16_at u32_at starts_typed typed_of
+passes_17 = (step_17, (step_18, (step_19, (step_20, (step_21, (step_22, (step_23, (step_24, tt))))))))
+
+passes_9 : PassesThrough r8 (drop 9 events) (drop 9 answers) (drop 9 worlds)
+unfolding u16_bytes u32_bytes u16_at u32_at starts_typed typed_of
+passes_9 = (step_9, (step_10, (step_11, (step_12, (step_13, (step_14, (step_15, (step_16, passes_17))))))))
+
 pub passes : PassesThrough (start resetting) events answers worlds
 unfolding u16_bytes u32_bytes u16_at u32_at starts_typed typed_of
-passes =
-    (opens, (step_1, (step_2, (step_3, (step_4, (step_5, (step_6, (step_7, (step_8, (step_9, (step_10, (step_11, (step_12, (step_13, (step_14, (step_15, (step_16, (step_17,
-    (step_18, (step_19, (step_20, (step_21, (step_22, (step_23, (step_24, tt)))))))))))))))))))))))))
+passes = (opens, (step_1, (step_2, (step_3, (step_4, (step_5, (step_6, (step_7, (step_8, passes_9)))))))))
 
 -- ---- each reset is asked for in time
 
-pub hears : HearsToldOnly B 0 (start resetting) events worlds
+hears_17 : HearsToldOnly B 0 r16 (drop 17 events) (drop 17 worlds)
 unfolding u16_bytes u32_bytes u16_at u32_at starts_typed typed_of
-hears =
-    (inl refl, (inl refl, (inl refl, (inr (inl refl), (inl refl, (inl refl, (inl refl, (inr (inl refl), (inl refl, (inl refl, (inl refl, (inl refl, (inl refl, (inr (inl
-    refl), (inl refl, (inl refl, (inl refl, (inl refl, (inl refl, (inl refl, (inr (inl refl), (inl refl, (inl refl, (inr (inl refl), (inl refl, tt)))))))))))))))))))))))))
+hears_17 = (inl refl, (inl refl, (inl refl, (inr (inl refl), (inl refl, (inl refl, (inr (inl refl), (inl refl, tt))))))))
+
+hears_9 : HearsToldOnly B 0 r8 (drop 9 events) (drop 9 worlds)
+unfolding u16_bytes u32_bytes u16_at u32_at starts_typed typed_of
+hears_9 = (inl refl, (inl refl, (inl refl, (inl refl, (inr (inl refl), (inl refl, (inl refl, (inl refl, hears_17))))))))
+
+hears : HearsToldOnly B 0 (start resetting) events worlds
+unfolding u16_bytes u32_bytes u16_at u32_at starts_typed typed_of
+hears = (inl refl, (inl refl, (inl refl, (inr (inl refl), (inl refl, (inl refl, (inl refl, (inr (inl refl), (inl refl, hears_9)))))))))
+
+takes_17 : TakesToldOnly B 0 (drop 17 events) (drop 17 answers) (drop 17 worlds)
+unfolding u16_bytes u32_bytes u16_at u32_at starts_typed typed_of
+takes_17 = (inl refl, (inl refl, (inl refl, (inl refl, (inl refl, (inl refl, (inl refl, (inr refl, tt))))))))
+
+takes_9 : TakesToldOnly B 0 (drop 9 events) (drop 9 answers) (drop 9 worlds)
+unfolding u16_bytes u32_bytes u16_at u32_at starts_typed typed_of
+takes_9 = (inl refl, (inl refl, (inl refl, (inl refl, (inl refl, (inl refl, (inl refl, (inl refl, takes_17))))))))
 
 takes : TakesToldOnly B 0 events answers worlds
 unfolding u16_bytes u32_bytes u16_at u32_at starts_typed typed_of
-takes =
-    (inl refl, (inl refl, (inl refl, (inl refl, (inr refl, (inl refl, (inl refl, (inl refl, (inr refl, (inl refl, (inl refl, (inl refl, (inl refl, (inl refl, (inl refl, (inl
-    refl, (inl refl, (inl refl, (inl refl, (inl refl, (inl refl, (inl refl, (inl refl, (inl refl, (inr refl, tt)))))))))))))))))))))))))
+takes = (inl refl, (inl refl, (inl refl, (inl refl, (inr refl, (inl refl, (inl refl, (inl refl, (inr refl, takes_9)))))))))
 
 -- ---- what is delivered
 

@@ -157,4 +157,3 @@ unfolding u16_bytes u32_bytes u16_at u32_at starts_typed typed_of
 step_10 = let t = sack_heard (end_now r9 A) sack in PacketComes (Deliver B 1) A (Some packet_9) (rested t) Taken (FromBag B 1 packet_9 refl)
     (ReadAs packet_9 (rested t) Taken (heard_unpaced (end_now r9 A) r9.draw packet_9 (rested t) (noted Unnoted no_notes) Taken refl refl refl
     (Next (end_now r9 A) t (rested t) Unnoted no_notes (noted Unnoted no_notes) (Sack sack) [] Taken (SackCounts refl refl) (NoneLeft (rested t) (noted Unnoted no_notes))) false (λ on. absurd (cc)) refl))
-

@@ -222,10 +222,13 @@ module _ (s : Setup) (drawn : List ℕ) (within : (x : Side) → IsConfiguration
           | inl on ↦ absurd (cc (on, off))
           | inr known ↦ inr (placed_on c (k.noted known c before))
         ]
-    each_now c (inr (on, count)) = inl ((reset_shuts w e o v step x n on).shut, λ y has stream. elim (has_either ss more y has) [
-      | inl old ↦ let low = numbered_upto 0 ss y i.numbered old in omega (arith, low, count)
-      | inr late ↦ absurd (no_more on y late)
-    ])
+    each_now c (inr (on, count)) = inl (
+      (reset_shuts w e o v step x n on).shut,
+      λ y has stream. elim (has_either ss more y has) [
+        | inl old ↦ let low = numbered_upto 0 ss y i.numbered old in omega (arith, low, count)
+        | inr late ↦ absurd (no_more on y late)
+      ],
+    )
 
     given_now : (c : ℕ) → Q c → c ≤ length (ss ++ more)
     given_now c (inl before) = let g = k.given c before in let l = longer in omega (arith, g, l)
@@ -386,32 +389,32 @@ resets_have_places s es os vs configured passes premises aged x n hears takes = 
         before = elim (cases_lt i p.place) [
           | inl lt ↦ lt
           | inr le ↦ absurd (
-            let late = new l.before (got_drop p.place i ms l.before l.one le) in
-            let k = was_sent l.before (got_has i ms l.before l.one) in
-            let low = p.alike.first l.before.sent k.0 k.1 l.old in
-            omega (arith, late, low)
-          )
+              let late = new l.before (got_drop p.place i ms l.before l.one le) in
+              let k = was_sent l.before (got_has i ms l.before l.one) in
+              let low = p.alike.first l.before.sent k.0 k.1 l.old in
+              omega (arith, late, low)
+              )
         ]
 
         behind : p.place ≤ j
         behind = elim (cases_lt j p.place) [
           | inr le ↦ le
           | inl lt ↦ absurd (
-            let low = old l.behind (got_take p.place j ms l.behind l.other_one lt) in
-            let k = was_sent l.behind (got_has j ms l.behind l.other_one) in
-            let le = p.alike.second l.behind.sent k.0 k.1 low in
-            let late = l.new in
-            omega (arith, le, late)
-          )
+              let low = old l.behind (got_take p.place j ms l.behind l.other_one lt) in
+              let k = was_sent l.behind (got_has j ms l.behind l.other_one) in
+              let le = p.alike.second l.behind.sent k.0 k.1 low in
+              let late = l.new in
+              omega (arith, le, late)
+              )
         ]
 
     between : (i j count : ℕ) → LiesBetween x n es os ms i j count → (place : ℕ) × IsReportedAt x n es os end place × (i < place) × (place ≤ j)
     between i j count l = elim (deals.each count (inr l.reset)) [
       | inr p ↦ placed i j count l p
       | inl (off, last) ↦ absurd (
-        let k = was_sent l.behind (got_has j ms l.behind l.other_one) in
-        let low = last l.behind.sent k.0 k.1 in
-        let late = l.new in
-        omega (arith, low, late)
-      )
+          let k = was_sent l.behind (got_has j ms l.behind l.other_one) in
+          let low = last l.behind.sent k.0 k.1 in
+          let late = l.new in
+          omega (arith, low, late)
+          )
     ]

@@ -274,8 +274,15 @@ response_goes r v number code open_shut keeps no_other is_done = record {
 
 -- a request that is retransmitted
 retried_goes : (r : ReceiverView) (v : SenderView) → Goes r v (retried v)
-retried_goes r v = record { since = since; shut = λ s. shut s v.resets.pending; resets = λ s. resets s v.resets.pending; noted = λ s k on. noted s k v.resets.pending refl;
-  low = λ h. low h v.resets.pending; back = λ h s. back h s v.resets.pending refl; freed = λ h s on. inl (freed s v.resets.pending on) }
+retried_goes r v = record {
+  since = since;
+  shut = λ s. shut s v.resets.pending;
+  resets = λ s. resets s v.resets.pending;
+  noted = λ s k on. noted s k v.resets.pending refl;
+  low = λ h. low h v.resets.pending;
+  back = λ h s. back h s v.resets.pending refl;
+  freed = λ h s on. inl (freed s v.resets.pending on);
+}
   where
     since : Since v (retried v)
     since =
