@@ -74,7 +74,7 @@ pub fn resets_are_all_noted()
 /// CHANNELS ARE ONE. Where a table of channels drives each end of a run that meets the three premises, and each reset was noted whenever a packet arrived, as calls of channels
 /// do: any two contents that are reported of a stream, without a report between that a channel of it is closed, are those of two messages between which the peer's user had no
 /// reset of the stream accepted: what is reported on one channel was sent on one (RFC 8831, 6.7). And there is such a run in which two contents are reported on one channel, and a
-/// third, behind CLOSED, on the next one of its stream.
+/// third, after CLOSED, on the next one of its stream.
 pub fn channels_are_one()
     ensures one { ChannelsAreOne }
     ensures two { TwoChannelsOnAStream }

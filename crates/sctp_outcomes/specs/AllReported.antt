@@ -57,7 +57,7 @@ ResetsAreAllReported = (s : Setup) (es : List Event) (os : List (Option Outcome)
 
 -- ---- where
 
--- A reset of the stream was reported, or is to be, and this is its place: so many messages of the stream were delivered before.
+-- A reset of the stream was reported, or is to be, and this is its place: that number of messages of the stream were delivered before.
 pub data IsReportedAt (x : Side) (stream : ℕ) (es : List Event) (os : List (Option Outcome)) (w : World) (place : ℕ) : Type 0 where
   WasReported : (t : IsTold x stream es os) → place_of x stream es os t ≡ place → IsReportedAt x stream es os w place
   IsToBe : (end_of w (other x)).receiver.resets.told stream ≡ Some place → IsReportedAt x stream es os w place

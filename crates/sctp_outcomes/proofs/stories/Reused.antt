@@ -1,13 +1,12 @@
 -- After two messages both halves of the stream are reset, and a message follows, as of the stream's next channel.
-use Rattle.std.proofs.Common.{◌≡◌, ℕ, ◌≤◌, ◌==◌, ◌&&◌, if◌then◌else◌, Bool, true, false, List, [], ◌∷◌, length, Option, Some, None, inl, inr, refl, arith}
+use Rattle.std.proofs.Common.{◌==◌, ◌&&◌, if◌then◌else◌, true, false, List, [], ◌∷◌, length, Some, None, refl, arith}
 use Rattle.sctp_model.specs.numbers.Lists.{at}
 use Rattle.sctp_model.specs.numbers.Numbers.{u16_bytes, u32_bytes, u16_at, u32_at}
-use Rattle.sctp_model.specs.wire.Typed.{Typed, typed_in, typed_of, starts_typed, written_typed}
-use Rattle.sctp_model.specs.wire.Chunk.{PieceMeaning, SackMeaning, Data, Sack}
+use Rattle.sctp_model.specs.wire.Typed.{Typed, typed_of, starts_typed}
+use Rattle.sctp_model.specs.wire.Chunk.{Data}
 use Rattle.sctp_model.specs.wire.Packet.{Packet, size_of_packet}
 use Rattle.sctp_model.specs.wire.Reconfig.{Performed, reconfig_chunk, reset_item, response_item}
-use Rattle.sctp_model.specs.messages.Format.{Plain, ordered_lane}
-use Rattle.sctp_model.specs.world.Calls.{Call}
+use Rattle.sctp_model.specs.messages.Format.{Plain}
 use Rattle.sctp_model.specs.sender.Outgoing.{lists}
 use Rattle.sctp_model.specs.receiver.Incoming.{Incoming, no_incoming}
 use Rattle.sctp_model.specs.receiver.ReceiverView.{ReceiverView, handed}
@@ -16,21 +15,20 @@ use Rattle.sctp_model.specs.receiver.SackMade.{first_taken}
 use Rattle.sctp_model.specs.end.EndView.{Tags, Established, Open, Due, nothing_due, EndView}
 use Rattle.sctp_model.specs.end.Closing.{rested}
 use Rattle.sctp_model.specs.end.PeerFaults.{Unnoted}
-use Rattle.sctp_model.specs.end.Reconfiguring.{parameters_heard}
-use Rattle.sctp_model.specs.end.Acting.{ReconfigComes, SackCounts, sack_heard}
+use Rattle.sctp_model.specs.end.Acting.{ReconfigComes}
 use Rattle.sctp_model.specs.end.Strays.{Taken}
 use Rattle.sctp_model.proofs.PacedEnds.{heard_unpaced}
 use Rattle.sctp_model.specs.end.Arriving.{NoneLeft, Next, ReadAs, no_notes, noted, acknowledges}
 use Rattle.sctp_model.specs.end.Building.{packet_of}
-use Rattle.sctp_model.specs.end.UserCalls.{Ticket, send_answer, send_leaves, reset_call, reset_leaves, reset_there, told_leaves}
-use Rattle.sctp_model.specs.world.World.{Side, A, B, World, with_end, with_packet, end_now, came, start}
-use Rattle.sctp_model.specs.world.Events.{Event, OpenBoth, Send, Take, Reset, WasReset, Build, Deliver, Outcome, Done, Told, Message, Sent, Acted, ResetThere}
-use Rattle.sctp_model.specs.world.Steps.{Step, BuildsOne, FromBag, PacketComes, Sends, TakesOne, ResetsOne, TellsReset, PassesThrough}
+use Rattle.sctp_model.specs.end.UserCalls.{Ticket, reset_call, reset_leaves, reset_there, told_leaves}
+use Rattle.sctp_model.specs.world.World.{A, B, World, with_end, with_packet, end_now, came}
+use Rattle.sctp_model.specs.world.Events.{Send, Take, Reset, WasReset, Build, Deliver, Done, Told, Message, Sent, Acted, ResetThere}
+use Rattle.sctp_model.specs.world.Steps.{Step, BuildsOne, FromBag, PacketComes, Sends, TakesOne, ResetsOne, TellsReset}
 use Rattle.sctp_outcomes.specs.receiver.Steps.{cumulative}
 use Rattle.sctp_outcomes.proofs.receiver.StepsLemmas.{cumulative_is}
-use Rattle.sctp_outcomes.proofs.stories.Small.{of_a, of_b, tags_a, tags_b, after_send}
+use Rattle.sctp_outcomes.proofs.stories.Small.{tags_a, tags_b, after_send}
 use Rattle.sctp_outcomes.proofs.stories.Packets.{packet_built, builds_are}
-use Rattle.sctp_outcomes.proofs.stories.Acts.{bound_none, bound_more, after_data, data_acts, data_note}
+use Rattle.sctp_outcomes.proofs.stories.Acts.{bound_none, after_data, data_acts, data_note}
 use Rattle.sctp_outcomes.proofs.stories.TwoMessages.{content, piece, taken, after_take, heard, two_seen, r0, r10}
 
 -- ---- the reset of both halves
@@ -49,7 +47,7 @@ response_back = response_item 200 Performed ∷ []
 
 -- ---- what each end is then
 
--- an end in ESTABLISHED with this receiver, of which this is due
+-- an endpoint in ESTABLISHED with this receiver, of which this is due
 abbrev with_parts : EndView → Tags → Due → ReceiverView → EndView → EndView
 with_parts first t d r e = record e { configuration = first.configuration; phase = Open t Established; moment = 0; due = d; delayed = None; pace = None; terms = first.terms; receiver = r }
 

@@ -1,20 +1,18 @@
 -- The run: two messages, the reset of both halves of their stream, and a message of its next channel. The reset lies between messages, and is reported.
-use Rattle.std.proofs.Common.{◌≡◌, ℕ, ◌<◌, ◌≤◌, List, [], ◌∷◌, drop, Option, Some, None, inl, inr, refl, sym, subst, arith}
-use Rattle.sctp_model.specs.numbers.Lists.{Has, AreInOrder}
+use Rattle.std.proofs.Common.{ℕ, ◌<◌, List, [], ◌∷◌, drop, Option, Some, inl, inr, refl, subst, arith}
+use Rattle.sctp_model.specs.numbers.Lists.{Has}
 use Rattle.sctp_model.specs.numbers.Numbers.{u16_bytes, u32_bytes, u16_at, u32_at}
 use Rattle.sctp_model.specs.wire.Typed.{typed_of, starts_typed}
 use Rattle.sctp_model.specs.wire.Chunk.{Data, Sack}
 use Rattle.sctp_model.specs.wire.Packet.{size_of_packet}
 use Rattle.sctp_model.specs.wire.Reconfig.{reconfig_chunk}
-use Rattle.sctp_model.specs.messages.Format.{Ordered}
 use Rattle.sctp_model.specs.end.UserCalls.{Ticket}
-use Rattle.sctp_model.specs.world.World.{Side, A, B, World, start}
+use Rattle.sctp_model.specs.world.World.{A, B, World, start}
 use Rattle.sctp_model.specs.world.Events.{Event, OpenBoth, Send, Take, Reset, WasReset, Build, Deliver, Outcome, Done, Told, Message, Sent, Acted, ResetThere}
-use Rattle.sctp_model.specs.world.Steps.{PassesThrough, last_of}
-use Rattle.sctp_outcomes.specs.Users as users
+use Rattle.sctp_model.specs.world.Steps.{PassesThrough}
 use Rattle.sctp_outcomes.specs.Users.{Exchange, exchange, Match, IsMatch}
 use Rattle.sctp_outcomes.specs.Parted.{TakesToldOnly, AreMatched}
-use Rattle.sctp_outcomes.specs.AllReported.{HearsToldOnly, LiesBetween, AResetLiesBetween}
+use Rattle.sctp_outcomes.specs.AllReported.{HearsToldOnly, AResetLiesBetween}
 use Rattle.sctp_outcomes.proofs.stories.Small.{of_a, of_b}
 use Rattle.sctp_outcomes.proofs.stories.Ours.{premises_of_ours}
 use Rattle.sctp_outcomes.proofs.stories.TwoResets.{resetting, configured, opens}

@@ -1,11 +1,10 @@
 -- Two messages of a stream are sent, taken and acknowledged, of endpoints that agree on resets.
-use Rattle.std.proofs.Common.{◌≡◌, ℕ, ◌≤◌, true, false, List, [], ◌∷◌, Option, Some, None, inl, inr, refl, arith}
+use Rattle.std.proofs.Common.{◌≡◌, ℕ, ◌≤◌, true, false, List, [], ◌∷◌, Some, None, refl, arith}
 use Rattle.sctp_model.specs.numbers.Lists.{at}
 use Rattle.sctp_model.specs.numbers.Numbers.{u16_bytes, u32_bytes, u16_at, u32_at}
 use Rattle.sctp_model.specs.wire.Typed.{Typed, typed_in, typed_of, starts_typed, written_typed}
 use Rattle.sctp_model.specs.wire.Chunk.{PieceMeaning, SackMeaning, Data, Sack}
 use Rattle.sctp_model.specs.wire.Packet.{Packet, size_of_packet}
-use Rattle.sctp_model.specs.wire.Reconfig.{Performed, reconfig_chunk, reset_item, response_item}
 use Rattle.sctp_model.specs.messages.Format.{Plain, ordered_lane}
 use Rattle.sctp_model.specs.world.Calls.{Call}
 use Rattle.sctp_model.specs.receiver.ReceiverView.{Handed}
@@ -14,21 +13,20 @@ use Rattle.sctp_model.specs.end.EndView.{Established, EndView}
 use Rattle.sctp_model.specs.end.Closing.{rested}
 use Rattle.sctp_model.specs.end.PeerFaults.{Unnoted}
 use Rattle.sctp_model.specs.end.Reconfiguring.{parameters_heard}
-use Rattle.sctp_model.specs.end.Acting.{ReconfigComes, SackCounts, sack_heard}
+use Rattle.sctp_model.specs.end.Acting.{SackCounts, sack_heard}
 use Rattle.sctp_model.specs.end.Strays.{Taken}
 use Rattle.sctp_model.proofs.PacedEnds.{heard_unpaced}
 use Rattle.sctp_model.specs.end.Arriving.{NoneLeft, Next, ReadAs, no_notes, noted, acknowledges}
 use Rattle.sctp_model.specs.end.Building.{packet_of}
-use Rattle.sctp_model.specs.end.UserCalls.{Ticket, send_answer, send_leaves, reset_call, reset_leaves, reset_there, told_leaves}
-use Rattle.sctp_model.specs.world.World.{Side, A, B, World, with_end, with_packet, end_now, came, start}
-use Rattle.sctp_model.specs.world.Events.{Event, OpenBoth, Send, Take, Reset, WasReset, Build, Deliver, Outcome, Done, Told, Message, Sent, Acted, ResetThere}
-use Rattle.sctp_model.specs.world.Steps.{Step, BuildsOne, FromBag, PacketComes, Sends, TakesOne, ResetsOne, TellsReset, PassesThrough}
+use Rattle.sctp_model.specs.end.UserCalls.{Ticket}
+use Rattle.sctp_model.specs.world.World.{A, B, World, with_end, with_packet, end_now, came}
+use Rattle.sctp_model.specs.world.Events.{Send, Take, Build, Deliver, Told, Message, Sent, Acted}
+use Rattle.sctp_model.specs.world.Steps.{Step, BuildsOne, FromBag, PacketComes, Sends, TakesOne}
 use Rattle.sctp_outcomes.specs.receiver.Steps.{cumulative}
-use Rattle.sctp_outcomes.proofs.receiver.StepsLemmas.{cumulative_is}
-use Rattle.sctp_outcomes.proofs.stories.Small.{of_a, of_b, tags_a, tags_b, after_send}
+use Rattle.sctp_outcomes.proofs.stories.Small.{tags_a, tags_b, after_send}
 use Rattle.sctp_outcomes.proofs.stories.Packets.{packet_built, builds_are}
 use Rattle.sctp_outcomes.proofs.stories.Acts.{bound_none, bound_more, after_data, data_acts, data_note}
-use Rattle.sctp_outcomes.proofs.stories.TwoResets.{resetting, p0, opens}
+use Rattle.sctp_outcomes.proofs.stories.TwoResets.{p0}
 
 -- ---- what each call leaves
 

@@ -165,7 +165,7 @@ module _ (x : Side) (n : ℕ) where
   abbrev pub Noted : World → Type 0
   Noted w = IsNoted (end_of w x).sender (end_of w (other x)).receiver n
 
-  -- So many were reported, and so many began: one may be to be reported, and one under way, but not if that was performed.
+  -- This number was reported, and this number began: one may be to be reported, and one under way, but not if that was performed.
   pub record Covers (reported begun : ℕ) (w : World) : Type 0 where
     pub within : begun ≤ reported + (waiting w + open_still w)
     pub noted : Noted w → begun ≤ reported + waiting w

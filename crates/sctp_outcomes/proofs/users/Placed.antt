@@ -54,7 +54,7 @@ numbered_above k (x ∷ xs) y (here, more) (inr has) = let low = numbered_above 
 
 -- ---- what is reported in some events
 
--- in one of these events a reset of the stream was reported, at this place, if so many messages had been taken before them
+-- in one of these events a reset of the stream was reported, at this place, if this number of messages had been taken before them
 abbrev pub ReportedAfter : Side → (stream took : ℕ) → List Event → List (Option Outcome) → (place : ℕ) → Type 0
 ReportedAfter y n took (e ∷ es) (o ∷ os) p =
     ((k : ℕ) × (e ≡ WasReset y) × (o ≡ Some (ResetThere n k)) × (took + k ≡ p)) ⊎ ReportedAfter y n (took + length (taken_by y n e o)) es os p
@@ -167,7 +167,7 @@ module _ (s : Setup) (drawn : List ℕ) (within : (x : Side) → IsConfiguration
     last_on : is_sending ((end_of w x).sender.resets.sending n) ≡ false → (c : ℕ) → IsLast ss c → IsLast (ss ++ more) c
     last_on off c last y has on = elim (has_either ss more y has) [ inl old ↦ last y old on | inr late ↦ absurd (none_more off y late on) ]
 
-    -- of two counts behind all messages of the stream
+    -- of two counts after all messages of the stream
     both_last : (c j : ℕ) → c ≤ length ss → j ≤ length ss → IsLast ss c → IsLast ss j → IsAlike ss c j
     both_last c j low high one two = record { first = λ y has on le. two y has on; second = λ y has on le. one y has on; low = low; high = high }
 
