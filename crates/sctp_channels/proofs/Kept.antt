@@ -62,13 +62,9 @@ module _ (v : EndView) (x : Table) (s n : ℕ) (p : HasNextPlace v x s n) where
   elsewhere_closed : (i : ℕ) → KeepsNext (reports_closed i v x)
   elsewhere_closed i unclosed = go (same_or_not i s)
     where
-      by_end : (s ≡ i → ⊥) → (b : Bool) → HasNextPlace v (if b then with_none x i else with_left_over x i) s n
-      by_end ne true = untouched v (with_none x i) (at_other x i s unused ne) refl
-      by_end ne false = untouched v (with_left_over x i) (at_other x i s (left_over (stream_at x i)) ne) refl
-
-      go : (i ≡ s) ⊎ (s ≡ i → ⊥) → HasNextPlace v (with_next v x i) s n
+      go : (i ≡ s) ⊎ (s ≡ i → ⊥) → HasNextPlace v (with_left_over x i) s n
       go (inl e) = absurd (unclosed (ap (λ (k : ℕ). Some (record { stream = k; told = Closed })) e))
-      go (inr ne) = by_end ne (is_some (ended_of v.phase))
+      go (inr ne) = untouched v (with_left_over x i) (at_other x i s (left_over (stream_at x i)) ne) refl
 
   abbrev after : (i : ℕ) → Handed → After
   after i h = comes x.role (outgoing v x) i h (stream_at x i)
@@ -128,9 +124,8 @@ module _ (v : EndView) (x : Table) (s n : ℕ) (p : HasNextPlace v x s n) where
   abbrev IsNext : Reported → Type 0
   IsNext r = r.report ≡ Some (record { stream = s; told = Closed }) → HasPlace r.view r.table s n
 
-  by_left : (b : Bool) → is_some (ended_of v.phase) ≡ b → b ≡ false → HasPlace v (if b then with_none x s else with_left_over x s) s n
-  by_left true over none = absurd (cc none)
-  by_left false over none =
+  own_next : HasPlace v (with_left_over x s) s n
+  own_next =
       let y = stream_at x s in
       let z : Stream = record unused { resets = One } in
       let is : stream_at (with_left_over x s) s ≡ leaving y.again z = at_same x s (left_over y) (there_is v x s n p) ∙ ap (λ (b : Bool). if b then peer_resets y.again unused else unused) p.is_reset_again in
@@ -140,10 +135,10 @@ module _ (v : EndView) (x : Table) (s n : ℕ) (p : HasNextPlace v x s n) where
         place = ap (λ (q : Stream). length (v.receiver.taken s) + q.left) is ∙ ap (λ (i : ℕ). length (v.receiver.taken s) + i) k.0 ∙ p.place;
       }
 
-  closed_next : ended_of v.phase ≡ None → (i : ℕ) → IsNext (reports_closed i v x)
-  closed_next alive i is =
+  closed_next : (i : ℕ) → IsNext (reports_closed i v x)
+  closed_next i is =
       let e : i ≡ s = (one_report i s Closed Closed is).0 in
-      subst (λ (k : ℕ). HasPlace v (with_next v x k) s n) (sym e) (by_left (is_some (ended_of v.phase)) refl (ap (λ (o : Option Ended). is_some o) alive))
+      subst (λ (k : ℕ). HasPlace v (with_left_over x k) s n) (sym e) own_next
 
   by_taken : (i : ℕ) (h : Handed) (rest : List Handed) (a : After) → (a.told ≡ Closed → ⊥) → (b : Bool) → IsNext (if b then reports_taken i h rest a v x else reports_waiting i a v x)
   by_taken i h rest a unclosed true is = absurd (unclosed (one_report i s a.told Closed is).1)
@@ -153,10 +148,10 @@ module _ (v : EndView) (x : Table) (s n : ℕ) (p : HasNextPlace v x s n) where
   by_waiting i [] is = absurd (cc)
   by_waiting i (h ∷ rest) is = by_taken i h rest (after i h) (comes_open x.role (outgoing v x) i h (stream_at x i)) (after i h).taken is
 
-  becomes : ended_of v.phase ≡ None → IsNext (next_report v x)
-  becomes alive =
-      report_cases IsNext v x (λ i on. closed_next alive i) (λ i is. absurd (low_is_open (one_report i s BufferedAmountLow Closed is).1)) (λ i on. by_waiting i (v.receiver.waiting i)) (λ is. absurd (cc))
-      (λ i on. closed_next alive i)
+  becomes : IsNext (next_report v x)
+  becomes =
+      report_cases IsNext v x (λ i on. closed_next i) (λ i is. absurd (low_is_open (one_report i s BufferedAmountLow Closed is).1)) (λ i on. by_waiting i (v.receiver.waiting i)) (λ is. absurd (cc))
+      (λ i on. closed_next i)
 
 pub second_resets_are_kept : SecondResetsAreKept
-second_resets_are_kept = record { noted = noted; kept = λ v x s n p unclosed. stays v x s n p unclosed; next = λ v x s n p alive is. becomes v x s n p alive is }
+second_resets_are_kept = record { noted = noted; kept = λ v x s n p unclosed. stays v x s n p unclosed; next = λ v x s n p is. becomes v x s n p is }

@@ -115,7 +115,7 @@ left_is n x = go (n == 0) refl
 
 -- ---- what a message tells
 
-tells_no : (role : DtlsRole) (o s : ℕ) (t : State) (k : Control) (x : Stream) (c : Content) → (control_comes role o s t k x).told ≡ Message c → ⊥
+pub tells_no : (role : DtlsRole) (o s : ℕ) (t : State) (k : Control) (x : Stream) (c : Content) → (control_comes role o s t k x).told ≡ Message c → ⊥
 tells_no role o s Unused (Opens p) x c is = go (is_own role s) (nat_le o s) is
   where
     go : (a b : Bool) → (if a then refuses WrongHalf x else if b then refuses NoWayBack x else tells (Rattle.sctp_channels.specs.Told.Incoming p) (record (Rattle.sctp_channels.specs.Streams.with_channel Open p.ordered p.reliability x) { due = Rattle.sctp_channels.specs.declared.stream.Due.TheVariants.Acknowledgement })).told ≡ Message c → ⊥
@@ -146,7 +146,7 @@ content_tells Closing d x c is = (cc is, refl)
 content_tells Refused d x c is = absurd (cc)
 content_tells Silent d x c is = absurd (cc)
 
-other_tells : (t : State) (x : Stream) (c : Content) → (other_comes t x).told ≡ Message c → ⊥
+pub other_tells : (t : State) (x : Stream) (c : Content) → (other_comes t x).told ≡ Message c → ⊥
 other_tells Unused x c is = cc
 other_tells Connecting x c is = cc
 other_tells Unanswered x c is = cc
@@ -254,29 +254,29 @@ first_passes test i (suc n) j is = go (test i) refl is (λ further. first_passes
     go true on here further = let e : i ≡ j = cc here in subst (λ (k : ℕ). test k ≡ true) e on
     go false off here further = further here
 
-turn_passes : (v : EndView) (x : Table) (j : ℕ) → turn v x ≡ Some j → is_readable v x j ≡ true
+pub turn_passes : (v : EndView) (x : Table) (j : ℕ) → turn v x ≡ Some j → is_readable v x j ≡ true
 turn_passes v x j is = go (readable_from v x x.next) refl is
   where
     go : (o : Option ℕ) → readable_from v x x.next ≡ o → or_else o (readable_from v x 0) ≡ Some j → is_readable v x j ≡ true
     go (Some i) first here = first_passes (is_readable v x) x.next (65_536 - x.next) j (first ∙ here)
     go None first here = first_passes (is_readable v x) 0 (65_536 - 0) j here
 
-pub report_cases : (P : Reported → Type 0) (v : EndView) (x : Table) → ((i : ℕ) → is_closed v x i ≡ true → P (reports_closed i v x)) →
-    ((i : ℕ) → P (reports_low i v x)) → ((i : ℕ) → is_readable v x i ≡ true → P (reports_message i (v.receiver.waiting i) v x)) → P (quiet v x) →
-    ((i : ℕ) → is_some (ended_of v.phase) ≡ true → P (reports_closed i v x)) → P (next_report v x)
-report_cases P v x closed low readable none over = first (first_from (is_closed v x) 0 (length x.streams)) refl
+pub report_turns : (P : Reported → Type 0) (v : EndView) (x : Table) → ((i : ℕ) → is_closed v x i ≡ true → P (reports_closed i v x)) →
+    ((i : ℕ) → P (reports_low i v x)) → ((i : ℕ) → turn v x ≡ Some i → P (reports_message i (v.receiver.waiting i) v x)) → P (quiet v x) →
+    ((i : ℕ) → is_some (ended_of v.phase) ≡ true → turn v x ≡ None → P (reports_closed i v x)) → P (next_report v x)
+report_turns P v x closed low readable none over = first (first_from (is_closed v x) 0 (length x.streams)) refl
   where
-    ends : (o : Option ℕ) → is_some (ended_of v.phase) ≡ true → P (reports_end o v x)
-    ends (Some i) on = over i on
-    ends None on = none
+    ends : (o : Option ℕ) → is_some (ended_of v.phase) ≡ true → turn v x ≡ None → P (reports_end o v x)
+    ends (Some i) on idle = over i on idle
+    ends None on idle = none
 
-    third : (b : Bool) → is_some (ended_of v.phase) ≡ b → P (if b then reports_end (first_from (is_used x) 0 (length x.streams)) v x else quiet v x)
-    third true on = ends (first_from (is_used x) 0 (length x.streams)) on
-    third false off = none
+    third : (b : Bool) → is_some (ended_of v.phase) ≡ b → turn v x ≡ None → P (if b then reports_end (first_from (is_used x) 0 (length x.streams)) v x else quiet v x)
+    third true on idle = ends (first_from (is_used x) 0 (length x.streams)) on idle
+    third false off idle = none
 
     second : (o : Option ℕ) → turn v x ≡ o → P (reports_turn o v x)
-    second (Some i) is = readable i (turn_passes v x i is)
-    second None is = third (is_some (ended_of v.phase)) refl
+    second (Some i) is = readable i is
+    second None is = third (is_some (ended_of v.phase)) refl is
 
     by_low : (o : Option ℕ) → P (reports_second o v x)
     by_low (Some i) = low i
@@ -285,6 +285,11 @@ report_cases P v x closed low readable none over = first (first_from (is_closed 
     first : (o : Option ℕ) → first_from (is_closed v x) 0 (length x.streams) ≡ o → P (reports_first o v x)
     first (Some i) is = closed i (first_passes (is_closed v x) 0 (length x.streams) i is)
     first None is = by_low (first_from (is_low v x) 0 (length x.streams))
+
+pub report_cases : (P : Reported → Type 0) (v : EndView) (x : Table) → ((i : ℕ) → is_closed v x i ≡ true → P (reports_closed i v x)) →
+    ((i : ℕ) → P (reports_low i v x)) → ((i : ℕ) → is_readable v x i ≡ true → P (reports_message i (v.receiver.waiting i) v x)) → P (quiet v x) →
+    ((i : ℕ) → is_some (ended_of v.phase) ≡ true → P (reports_closed i v x)) → P (next_report v x)
+report_cases P v x closed low readable none over = report_turns P v x closed low (λ i is. readable i (turn_passes v x i is)) none (λ i on idle. over i on)
 
 -- what is told is one
 or_report : Option Report → Report
@@ -390,13 +395,9 @@ module _ (v : EndView) (x : Table) (s n : ℕ) (p : HasPlace v x s n) where
   elsewhere_closed : (i : ℕ) → KeepsPlace (reports_closed i v x)
   elsewhere_closed i unclosed = go (same_or_not i s)
     where
-      by_end : (s ≡ i → ⊥) → (b : Bool) → HasPlace v (if b then with_none x i else with_left_over x i) s n
-      by_end ne true = untouched v (with_none x i) (at_other x i s unused ne) refl
-      by_end ne false = untouched v (with_left_over x i) (at_other x i s (left_over (stream_at x i)) ne) refl
-
-      go : (i ≡ s) ⊎ (s ≡ i → ⊥) → HasPlace v (with_next v x i) s n
+      go : (i ≡ s) ⊎ (s ≡ i → ⊥) → HasPlace v (with_left_over x i) s n
       go (inl e) = absurd (unclosed (ap (λ (k : ℕ). Some (record { stream = k; told = Closed })) e))
-      go (inr ne) = by_end ne (is_some (ended_of v.phase))
+      go (inr ne) = untouched v (with_left_over x i) (at_other x i s (left_over (stream_at x i)) ne) refl
 
   taken_at : (i : ℕ) (h : Handed) → (s ≡ i → ⊥) → length (at v.receiver.taken i (v.receiver.taken i ++ h ∷ []) s) ≡ length (v.receiver.taken s)
   taken_at i h ne = go (s == i) refl

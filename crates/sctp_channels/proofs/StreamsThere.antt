@@ -139,43 +139,47 @@ waits_there w r y s some =
 -- the same messages wait, and the same resets are to be told
 record TellsSame (e t : EndView) : Type 0 where
   waiting : t.receiver.waiting ≡ e.receiver.waiting
+  streams : t.receiver.streams ≡ e.receiver.streams
   told : t.receiver.resets.told ≡ e.receiver.resets.told
 
 same_on : (e t u : EndView) → TellsSame e t → TellsSame t u → TellsSame e u
-same_on e t u a b = record { waiting = b.waiting ∙ a.waiting; told = b.told ∙ a.told }
+same_on e t u a b = record { waiting = b.waiting ∙ a.waiting; streams = b.streams ∙ a.streams; told = b.told ∙ a.told }
 
 same_built : (s : Slot) (e : EndView) → TellsSame e (once_built s e)
-same_built EchoSlot e = record { waiting = refl; told = refl }
-same_built CookieAckSlot e = record { waiting = refl; told = refl }
-same_built HeartbeatSlot e = record { waiting = refl; told = refl }
-same_built ErrorSlot e = record { waiting = refl; told = refl }
-same_built SackSlot e = record { waiting = refl; told = refl }
-same_built ForwardSlot e = record { waiting = refl; told = refl }
-same_built AnswerSlot e = record { waiting = refl; told = refl }
-same_built RequestSlot e = record { waiting = refl; told = refl }
-same_built ShutdownSlot e = record { waiting = refl; told = refl }
-same_built ShutdownAckSlot e = record { waiting = refl; told = refl }
+same_built EchoSlot e = record { waiting = refl; streams = refl; told = refl }
+same_built CookieAckSlot e = record { waiting = refl; streams = refl; told = refl }
+same_built HeartbeatSlot e = record { waiting = refl; streams = refl; told = refl }
+same_built ErrorSlot e = record { waiting = refl; streams = refl; told = refl }
+same_built SackSlot e = record { waiting = refl; streams = refl; told = refl }
+same_built ForwardSlot e = record { waiting = refl; streams = refl; told = refl }
+same_built AnswerSlot e = record { waiting = refl; streams = refl; told = refl }
+same_built RequestSlot e = record { waiting = refl; streams = refl; told = refl }
+same_built ShutdownSlot e = record { waiting = refl; streams = refl; told = refl }
+same_built ShutdownAckSlot e = record { waiting = refl; streams = refl; told = refl }
 
 same_puts : (ss : List Slot) (e : EndView) (xs zs : List ChunkMeaning) (full : Bool) (t : EndView) → Puts ss e xs zs full t → TellsSame e t
-same_puts ss e xs zs full t (NoMore _ _) = record { waiting = refl; told = refl }
+same_puts ss e xs zs full t (NoMore _ _) = record { waiting = refl; streams = refl; told = refl }
 same_puts ss e xs zs full t (NotDue _ more _ _ _ _ _ off rest) = same_puts more e xs zs full t rest
 same_puts ss e xs zs full t (Put s more _ x _ _ _ _ due wants room rest) = same_on e (once_built s e) t (same_built s e) (same_puts more (once_built s e) (xs ++ x ∷ []) zs full t rest)
-same_puts ss e xs zs full t (IsFull _ _ _ _ _ due wants room) = record { waiting = refl; told = refl }
+same_puts ss e xs zs full t (IsFull _ _ _ _ _ due wants room) = record { waiting = refl; streams = refl; told = refl }
 
 same_asking : (b : Bool) (e : EndView) → TellsSame e (asking_now b e)
-same_asking true e = record { waiting = refl; told = refl }
-same_asking false e = record { waiting = refl; told = refl }
+same_asking true e = record { waiting = refl; streams = refl; told = refl }
+same_asking false e = record { waiting = refl; streams = refl; told = refl }
 
 same_builds : (e : EndView) (zs : List ChunkMeaning) (t : EndView) → Builds e zs t → TellsSame e t
-same_builds e zs t (Sleeps _) = record { waiting = refl; told = refl }
-same_builds e zs t (Waits _ _ _) = record { waiting = refl; told = refl }
-same_builds e zs t (Calls _ _ _) = record { waiting = refl; told = refl }
+same_builds e zs t (Sleeps _) = record { waiting = refl; streams = refl; told = refl }
+same_builds e zs t (Waits _ _ _) = record { waiting = refl; streams = refl; told = refl }
+same_builds e zs t (Calls _ _ _) = record { waiting = refl; streams = refl; told = refl }
 same_builds e zs t (Echoes _ _ _ full _ is puts) = same_puts _ e [] zs full t puts
 same_builds e zs t (EndsFull _ _ _ _ is puts) = same_on e (asking e) t (same_asking _ e) (same_puts _ (asking e) [] zs true t puts)
 same_builds e zs t (Fills _ _ ys x is puts) =
-    let s = same_on e (asking e) x (same_asking _ e) (same_puts _ (asking e) [] ys false x puts) in record { waiting = s.waiting; told = s.told }
+    let s = same_on e (asking e) x (same_asking _ e) (same_puts _ (asking e) [] ys false x puts) in record { waiting = s.waiting; streams = s.streams; told = s.told }
 
 pub builds_noted : (e : EndView) (zs : List ChunkMeaning) (t : EndView) → Builds e zs t → IsAllNoted e → IsAllNoted t
-builds_noted e zs t b all s some =
+builds_noted e zs t b all =
     let same = same_builds e zs t b in
-    subst (λ (f : ℕ → Option ℕ). f s ≡ None) (sym same.told) (all s (λ none. some (ap (λ (f : ℕ → List Handed). f s) same.waiting ∙ none)))
+    record {
+      there = λ s lt. subst (λ (f : ℕ → Option ℕ). f s ≡ None) (sym same.told) (all.there s (subst (λ (n : ℕ). s < n) same.streams lt));
+      waiting = λ s some. subst (λ (f : ℕ → Option ℕ). f s ≡ None) (sym same.told) (all.waiting s (λ none. some (ap (λ (f : ℕ → List Handed). f s) same.waiting ∙ none)));
+    }

@@ -68,14 +68,14 @@ pub record HasNextPlace (v : EndView) (x : Table) (s n : ℕ) : Type 0 where
   pub place : length (v.receiver.taken s) + (stream_at x s).again ≡ n
   pub behind : (stream_at x s).left ≤ (stream_at x s).again
 
--- A further reset is noted with its place; whatever is told next, but that the channel is closed, the place stays; and once that is told, while the association lives,
--- it is the place of the stream's next channel (RFC 8831, 6.7).
+-- A further reset is noted with its place; whatever is told next, but that the channel is closed, the place stays; and once that is told, it is the place of the stream's
+-- next channel (RFC 8831, 6.7).
 pub record SecondResetsAreKept : Type 0 where
   pub noted : (v : EndView) (x : Table) (s n count : ℕ) → HasPlace v x s n → n ≤ length (v.receiver.taken s) + count →
       HasNextPlace v (with_reset s count x) s (length (v.receiver.taken s) + count)
   pub kept : (v : EndView) (x : Table) (s n : ℕ) → HasNextPlace v x s n → ((next_report v x).report ≡ Some (record { stream = s; told = Closed }) → ⊥) →
       HasNextPlace (next_report v x).view (next_report v x).table s n
-  pub next : (v : EndView) (x : Table) (s n : ℕ) → HasNextPlace v x s n → ended_of v.phase ≡ None → (next_report v x).report ≡ Some (record { stream = s; told = Closed }) →
+  pub next : (v : EndView) (x : Table) (s n : ℕ) → HasNextPlace v x s n → (next_report v x).report ≡ Some (record { stream = s; told = Closed }) →
       HasPlace (next_report v x).view (next_report v x).table s n
 
 -- ---- what is told was sent

@@ -18,4 +18,5 @@ pub mod Few
 pub mod AgedSinceBuilt
 pub mod Users
 pub mod Parted
+pub mod AllReported
 pub mod Clocks

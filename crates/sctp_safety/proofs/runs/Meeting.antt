@@ -52,6 +52,9 @@ new_step f a r sending receiving = record {
   kept = λ q some. absurd (let h = pending in cc);
   waiting = λ q some. absurd (let h = pending in cc);
   bases = inl (λ l numbered. ap (λ (x : Outgoing). x.base l) sending ∙ sym (ap (λ (x : Incoming). x.base l) receiving), λ q some. absurd (let h = pending in cc));
+  last = λ q is. absurd (let h = ap (λ (x : Outgoing). x.last_made) sending in cc);
+  said = λ q some. absurd (let h = pending in cc);
+  waited = λ w is. absurd (let h = ap (λ (x : Incoming). x.waited) receiving in cc);
   old = λ l n below. let h = ap (λ (x : Outgoing). x.base l) sending in absurd (omega (arith, below, h));
   answers = λ x has. absurd (subst (λ (y : Incoming). Has y.answers x) receiving has);
   typed = λ x has. absurd (subst (λ (y : Incoming). Has y.answers x) receiving has);
