@@ -66,6 +66,7 @@ receiver t = record {
   initial = 100;
   streams = 1;
   buffer = 65536;
+  reserve = 0;
 }
 
 -- and A's
@@ -224,7 +225,7 @@ unfolding u16_bytes u32_bytes u16_at u32_at starts_typed typed_of
 step_23 = PacketComes (Deliver A 5) B (Some packet_22) (acknowledges Established (rested e23)) Taken (FromBag A 5 packet_22 refl)
     (ReadAs packet_22 (acknowledges Established (rested e23)) Taken (heard_unpaced (end_now r22 B) r22.draw packet_22 (rested e23) (noted (data_note (end_now r22 B) 2 (piece 102 0 99)) no_notes) Taken refl refl refl
     (Next (end_now r22 B) e23 (rested e23) (data_note (end_now r22 B) 2 (piece 102 0 99)) no_notes (noted (data_note (end_now r22 B) 2 (piece 102 0 99)) no_notes) (Data (piece 102 0 99)) [] Taken
-    (data_acts Plain (end_now r22 B) tags_b Established 2 (piece 102 0 99) two_seen refl refl (omega arith) refl)
+    (data_acts Plain (end_now r22 B) tags_b Established 2 (piece 102 0 99) two_seen refl refl (omega arith) refl refl)
     (NoneLeft (rested e23) (noted (data_note (end_now r22 B) 2 (piece 102 0 99)) no_notes))) false (λ on. absurd (cc)) refl))
 
 abbrev pub r24 : World

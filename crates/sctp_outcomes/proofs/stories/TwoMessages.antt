@@ -86,7 +86,7 @@ unfolding u16_bytes u32_bytes u16_at u32_at starts_typed typed_of
 step_3 = PacketComes (Deliver A 1) B (Some packet_2) (acknowledges Established (rested e3)) Taken (FromBag A 1 packet_2 refl)
     (ReadAs packet_2 (acknowledges Established (rested e3)) Taken (heard_unpaced (end_now r2 B) r2.draw packet_2 (rested e3) (noted (data_note (end_now r2 B) 0 (piece 100 0 97)) no_notes) Taken refl refl refl
     (Next (end_now r2 B) e3 (rested e3) (data_note (end_now r2 B) 0 (piece 100 0 97)) no_notes (noted (data_note (end_now r2 B) 0 (piece 100 0 97)) no_notes) (Data (piece 100 0 97)) [] Taken
-    (data_acts Plain (end_now r2 B) tags_b Established 0 (piece 100 0 97) (bound_none r2.b.receiver refl) refl refl (omega arith) refl)
+    (data_acts Plain (end_now r2 B) tags_b Established 0 (piece 100 0 97) (bound_none r2.b.receiver refl) refl refl (omega arith) refl refl)
     (NoneLeft (rested e3) (noted (data_note (end_now r2 B) 0 (piece 100 0 97)) no_notes))) false (λ on. absurd (cc)) refl))
 
 abbrev pub r4 : World
@@ -124,7 +124,7 @@ unfolding u16_bytes u32_bytes u16_at u32_at starts_typed typed_of
 step_7 = PacketComes (Deliver A 2) B (Some packet_6) (acknowledges Established (rested e7)) Taken (FromBag A 2 packet_6 refl)
     (ReadAs packet_6 (acknowledges Established (rested e7)) Taken (heard_unpaced (end_now r6 B) r6.draw packet_6 (rested e7) (noted (data_note (end_now r6 B) 1 (piece 101 1 98)) no_notes) Taken refl refl refl
     (Next (end_now r6 B) e7 (rested e7) (data_note (end_now r6 B) 1 (piece 101 1 98)) no_notes (noted (data_note (end_now r6 B) 1 (piece 101 1 98)) no_notes) (Data (piece 101 1 98)) [] Taken
-    (data_acts Plain (end_now r6 B) tags_b Established 1 (piece 101 1 98) one_seen refl refl (omega arith) refl)
+    (data_acts Plain (end_now r6 B) tags_b Established 1 (piece 101 1 98) one_seen refl refl (omega arith) refl refl)
     (NoneLeft (rested e7) (noted (data_note (end_now r6 B) 1 (piece 101 1 98)) no_notes))) false (λ on. absurd (cc)) refl))
 
 abbrev pub r8 : World

@@ -12,7 +12,7 @@ use Rattle.sctp_model.specs.receiver.SackMade.{TakeLeaves}
 use Rattle.sctp_model.specs.end.EndView.{Phase, Established, ShutdownPending, ShutdownSent, ShutdownReceived, ShutdownAckSent, Idle, Listening, Calling, Echoing, Open, Over, ResetAlarm, EndView}
 use Rattle.sctp_model.specs.end.Clock.{is_home, settled, turned}
 use Rattle.sctp_model.specs.end.Reconfiguring.{asking_now, asking}
-use Rattle.sctp_model.specs.end.Building.{Slot, Puts, NoMore, NotDue, Put, IsFull, Builds, Sleeps, Waits, Calls, Echoes, EndsFull, Fills, EchoSlot, CookieAckSlot, HeartbeatSlot, ErrorSlot, SackSlot, ForwardSlot, ShutdownSlot, ShutdownAckSlot, once_built, AnswerSlot, RequestSlot}
+use Rattle.sctp_model.specs.end.Building.{Slot, Puts, NoMore, NotDue, Put, IsFull, Builds, Sleeps, Waits, Calls, Echoes, EndsFull, Fills, EchoSlot, CookieAckSlot, HeartbeatSlot, BeatSlot, ErrorSlot, SackSlot, ForwardSlot, ShutdownSlot, ShutdownAckSlot, once_built, AnswerSlot, RequestSlot}
 use Rattle.sctp_model.specs.end.Moments.{after_abandoning}
 use Rattle.sctp_model.specs.end.UserCalls.{SendAnswer, Ticket, Refused, NotOpen, send_leaves, is_open, abandoned_at, shut_in, shut, AbortAnswer, Aborts, NoPeer, TooLong, abort_leaves, UserTakes}
 use Rattle.sctp_safety.proofs.runs.Pair.{views_rested}
@@ -54,6 +54,7 @@ built_quiet : (s : Slot) (e : EndView) → IsQuiet e.receiver (once_built s e).r
 built_quiet EchoSlot e = quiet_same e.receiver _ refl
 built_quiet CookieAckSlot e = quiet_same e.receiver _ refl
 built_quiet HeartbeatSlot e = quiet_same e.receiver _ refl
+built_quiet BeatSlot e = quiet_same e.receiver _ refl
 built_quiet ErrorSlot e = quiet_same e.receiver _ refl
 built_quiet SackSlot e = record { initial = refl; streams = refl; waited = refl; result = refl; taken = refl }
 built_quiet ForwardSlot e = quiet_same e.receiver _ refl
