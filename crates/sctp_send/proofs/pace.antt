@@ -10,3 +10,4 @@ pub mod WeighLemmas
 pub mod AfterLemmas
 pub mod SentLemmas
 pub mod ToldLemmas
+pub mod AgainLemmas

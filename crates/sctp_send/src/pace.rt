@@ -7,7 +7,7 @@ pub mod tally;
 pub mod weighing;
 pub mod weight;
 
-ghost use Rattle.std.specs.Prelude.{◌≡◌, ℕ, ◌<◌, ◌≤◌, Bool, ◌||◌};
+ghost use Rattle.std.specs.Prelude.{◌≡◌, ℕ, ◌<◌, ◌≤◌, Bool, false, ◌||◌, []};
 ghost use Rattle.sctp_model.specs.messages.Framing.{header_of};
 ghost use Rattle.sctp_model.specs.sender.SenderView.{SenderView};
 ghost use Rattle.sctp_model.specs.sender.Entries.{in_flight};
@@ -15,6 +15,7 @@ ghost use Rattle.sctp_model.specs.sender.Filling.{fill};
 ghost use Rattle.sctp_model.specs.end.Misses.{last_sent};
 ghost use Rattle.sctp_model.specs.end.Control.{chunk_flight, room_of_repeats};
 ghost use Rattle.sctp_send.specs.SenderStands.{StandsFor};
+ghost use Rattle.sctp_send.specs.FillAnswers.{sent_again};
 ghost use Rattle.sctp_send.specs.PaceAnswers.{first_in_flight, AgreeInFlight};
 
 use crate::index_test::IndexTest;
@@ -68,6 +69,13 @@ impl<F: Framing> Sender<F> {
             return true;
         }
         is_done(&self.parts.outstanding, offset_of(self.told.cum, index))
+    }
+
+    /// Whether `fill` may retransmit something; if not, it lists no index as sent again. Two numbers are compared.
+    pub fn may_repeat(&self) -> bool
+        ensures { (v : SenderView) → StandsFor F.format self.now v → result ≡ false → (room : ℕ) → sent_again (fill F.format room v).wishes ≡ [] }
+    {
+        self.parts.outstanding.may_repeat()
     }
 
     /// The space in bytes that the retransmissions take, of the chunks that `fill` would put into a packet with this much space for chunks

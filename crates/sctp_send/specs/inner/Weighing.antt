@@ -135,3 +135,10 @@ repeats_room f room [] = 0
 repeats_room f room (x ∷ xs) =
     if x.marked then (if nat_le (item_room f x) room then item_room f x + repeats_room f (room - item_room f x) xs else 0)
     else repeats_room f room xs
+
+-- the offsets of those, from one on
+abbrev pub repeats_from : Format → (room at : ℕ) → List Item → List ℕ
+repeats_from f room k [] = []
+repeats_from f room k (x ∷ xs) =
+    if x.marked then (if nat_le (item_room f x) room then k ∷ repeats_from f (room - item_room f x) (suc k) xs else [])
+    else repeats_from f room (suc k) xs

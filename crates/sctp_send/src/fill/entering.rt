@@ -179,28 +179,19 @@ impl Told {
 impl Sendings {
     /// No chunk went in.
     pub(crate) fn none() -> Sendings
-        ensures { result ≡ record { first = 0; timed = 0; missed = 0 } }
+        ensures { result ≡ record { first = 0; again = 0 } }
     {
-        Sendings {
-            first: 0,
-            timed: 0,
-            missed: 0,
-        }
+        Sendings { first: 0, again: 0 }
     }
 
-    /// A wish goes, above this cumulative TSN acknowledged (CUM): one more chunk. All indexes below `missed` were missed.
+    /// A wish goes: one more chunk.
     #[inline(always)]
-    fn count(&mut self, going: Going, cum: u64, missed: u64)
-        ensures { self.new ≡ sent_going going cum missed self.old }
+    fn count(&mut self, going: Going)
+        ensures { self.new ≡ sent_going going self.old }
     {
         match going {
             Going::Indexed(pending) if pending.again => {
-                let index = cum.wrapping_add(pending.at as u64).wrapping_add(1);
-                if index < missed {
-                    self.missed = self.missed.wrapping_add(1);
-                } else {
-                    self.timed = self.timed.wrapping_add(1);
-                }
+                self.again = self.again.wrapping_add(1);
             }
             _ => self.first = self.first.wrapping_add(1),
         }
@@ -208,12 +199,11 @@ impl Sendings {
 }
 
 impl Told {
-    /// Puts the next chunk to be sent, until none may go, at most so many, and counts them; all indexes below `missed` were missed.
+    /// Puts the next chunk to be sent, until none may go, at most so many, and counts them.
     pub(crate) fn put_all<F: Framing>(
         &self,
         stock: &mut Stock,
         most: usize,
-        missed: u64,
         packet: &mut PacketWriter,
     ) -> Sendings
         requires fresh { stock.old.tickets.items ≡ [] }
@@ -223,7 +213,7 @@ impl Told {
         requires more { room_in packet.old < 16 * most }
         requires told { most ≤ vec_capacity stock.old.tickets }
         ensures all { (v : SenderView) → Keeps F.format (stocked (bare self.now) stock.old) v
-            → AllPut F.format (bare self.now) v packet.old packet.new stock.new missed result }
+            → AllPut F.format (bare self.now) v packet.old packet.new stock.new result }
         ensures sized { IsSized F.format self.now.fragment stock.new }
         ensures reserved { packet.new.space ≡ true }
     {
@@ -232,7 +222,7 @@ impl Told {
             let Some(going) = self.next_going::<F>(stock, packet.room()) else {
                 return sendings;
             };
-            sendings.count(going, self.cum, missed);
+            sendings.count(going);
             self.go::<F>(stock, going, packet);
         }
         sendings

@@ -5,8 +5,9 @@ use Rattle.sctp_packet.specs.Draft.{room_in}
 use Rattle.sctp_send.specs.FillAnswers.{sendings_of}
 use Rattle.sctp_send.specs.SenderStands.{StandsFor}
 use Rattle.sctp_send.proofs.fill.FilledLemmas.{no_chunks}
+use Rattle.sctp_send.proofs.pace.AgainLemmas.{none_again, nothing_filled}
 use Rattle.sctp_send.proofs.fill.NewlyLemmas.{newly_self}
-use Rattle.sctp_send.proofs.sender.Sender.fill_counting.Goals as goal
+use Rattle.sctp_send.proofs.sender.Sender.fill.Goals as goal
 
 pub returns-then-is_at_rest-clause-step : goal.returns-then-is_at_rest-clause-step
 unfolding StandsFor
@@ -27,5 +28,11 @@ unfolding StandsFor
 returns-then-is_at_rest-clause-sendings g c = λ v stands.
     let f = g.F.Framing.format in
     let room = room_in c.args.packet.now in
-    let rest = stopped_is_fill f v v room [] refl (goes_none f room v (c.is_at_rest.ensures v stands c.if-is_at_rest.true)) in
-    c.none-sendings.ensures ∙ ap (sendings_of c.args.missed) (one_fill f v v (fill f room v).view room [] (fill f room v).wishes rest (fill_is_fill f room v)).0
+    c.none-sendings.ensures ∙ ap sendings_of (nothing_filled f room v (c.is_at_rest.ensures v stands c.if-is_at_rest.true))
+
+pub returns-then-is_at_rest-clause-again : goal.returns-then-is_at_rest-clause-again
+unfolding StandsFor
+returns-then-is_at_rest-clause-again g c = λ v stands.
+    let f = g.F.Framing.format in
+    let room = room_in c.args.packet.now in
+    none_again v (fill f room v).wishes c.clear.new.self.items c.clear.ensures.items (nothing_filled f room v (c.is_at_rest.ensures v stands c.if-is_at_rest.true))
