@@ -138,9 +138,7 @@ impl<F: Framing> Sender<F> {
         ensures { (v : SenderView) → StandsFor F.format self.now v → OnOk result (AreSentAgain v (fill F.format room v).wishes again.new.items) }
     {
         let cum = self.told.cum;
-        self.parts
-            .outstanding
-            .list_repeats::<F>(cum, room, again)
+        self.parts.outstanding.list_repeats::<F>(cum, room, again)
     }
 
     /// `fill`, when memory was refused: an error if and only if some chunk could go.

@@ -1,5 +1,5 @@
 -- Which indexes FILL retransmits: of what is kept, entry by entry, and of FILL, wish by wish.
-use Rattle.std.proofs.Common.{inl, inr, ◌≡◌, ℕ, zero, suc, ◌+◌, ◌-◌, ◌%◌, ◌^◌, ◌<◌, ◌≤◌, ◌∙◌, List, [], ◌∷◌, length, take, drop, get_or, set, map, Bool, true, false, Option, Some, None, refl, sym, ap, subst, arith}
+use Rattle.std.proofs.Common.{inl, inr, ◌≡◌, ℕ, zero, suc, ◌+◌, ◌-◌, ◌<◌, ◌≤◌, ◌∙◌, List, [], ◌∷◌, length, take, drop, get_or, set, map, Bool, true, false, Option, Some, None, refl, sym, ap, subst, arith}
 use Rattle.std.specs.Prelude.{nat_le, if◌then◌else◌, slice_get, ◌==◌, ◌||◌, ◌&&◌}
 use Rattle.std.specs.List.{list_any, All, AllByRecursion}
 use Rattle.std.specs.Option.{option_map_or}
@@ -248,7 +248,7 @@ listed_again f s v room xs is k items listed =
       those = λ i. ap (list_any (λ j. j == i)) exact ∙ again_said (fill f room v).wishes i;
       rising = subst (AreRising v.cum) (sym here) (listed_rising f room v.cum 0 v.cum s.items (omega arith));
       within = subst (All (λ i. i ≤ last_sent v)) (sym here) (All-from_recursion (λ i. i ≤ last_sent v) _
-      (listed_marked f room v.cum 0 (last_sent v) s.items (λ j x get on. let zeroed : 0 + j ≡ j = omega arith in rw zeroed (marked_sent f s v j x k get on))));
+          (listed_marked f room v.cum 0 (last_sent v) s.items (λ j x get on. let zeroed : 0 + j ≡ j = omega arith in rw zeroed (marked_sent f s v j x k get on))));
     }
 
 -- ---- where nothing is sent

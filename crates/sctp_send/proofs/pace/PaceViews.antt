@@ -1,22 +1,18 @@
 -- What a view says of an index above CUM, by the item that is kept of it; the first index in flight, and what isn't timed any more.
-use Rattle.std.proofs.Common.{inl, inr, ◌≡◌, ℕ, zero, suc, ◌+◌, ◌-◌, ◌*◌, ◌%◌, ◌^◌, ◌<◌, ◌≤◌, ◌∙◌, List, [], ◌∷◌, length, drop, Bool, true, false, Option, Some, None, refl, sym, ap, subst, arith}
-use Rattle.std.specs.Prelude.{nat_le, nat_lt, ◌&&◌, ◌||◌, slice_get, option_map}
-use Rattle.std.proofs.lemmas.Bool.{cases_lt}
-use Rattle.std.proofs.lemmas.Bool.Decides.{nat_tests}
+use Rattle.std.proofs.Common.{◌≡◌, ℕ, zero, suc, ◌+◌, ◌-◌, ◌*◌, ◌%◌, ◌^◌, ◌<◌, ◌≤◌, ◌∙◌, List, [], ◌∷◌, length, drop, Bool, true, false, Option, Some, None, refl, sym, ap, arith}
+use Rattle.std.specs.Prelude.{◌||◌, slice_get, option_map}
 use Rattle.sctp_model.specs.messages.Format.{Format}
 use Rattle.sctp_model.specs.messages.Plan.{Entry, entry_at}
 use Rattle.sctp_model.specs.sender.SenderView.{SenderView}
 use Rattle.sctp_model.specs.sender.Words.{some_passes}
-use Rattle.sctp_model.specs.sender.Entries.{is_in_flight, in_flight, passes_at}
-use Rattle.sctp_model.proofs.sender.WordLaws.{lowest_found, lowest_none}
+use Rattle.sctp_model.specs.sender.Entries.{in_flight}
 use Rattle.sctp_model.proofs.sender.PointLaws.{get-drop}
-use Rattle.sctp_model.proofs.sender.Bounds.{IsBounded, is_bounded}
+use Rattle.sctp_model.proofs.sender.Bounds.{is_bounded}
 use Rattle.sctp_model.proofs.sender.OwedLaws.{is_promised, is_windowed}
 use Rattle.sctp_send.specs.SenderKept.{Item, Kept}
 use Rattle.sctp_send.specs.SenderStands.{item_here, items_from, Keeps}
-use Rattle.sctp_send.specs.PaceAnswers.{first_in_flight}
 use Rattle.sctp_send.specs.inner.Wishing.{item_flight}
-use Rattle.sctp_send.specs.inner.Weighing.{is_item_flying, is_item_done, passes_here, FirstAnswer}
+use Rattle.sctp_send.specs.inner.Weighing.{is_item_done, passes_here}
 use Rattle.sctp_send.proofs.KeepLemmas.{kept_length}
 use Rattle.sctp_send.proofs.fill.RoomLemmas.{flight_kept}
 

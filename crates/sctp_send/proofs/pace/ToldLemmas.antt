@@ -115,8 +115,8 @@ first_told f s v says told from below lo hi xs o h agree items low high first = 
         let upper : nat_lt at hi ≡ true = grind (arith, nat_tests) in
         ap Some (index_fits f s v at h lt)
         ∙ sym (lowest_found (On v told) (length v.plan.entries) (suc (v.cum + at)) (record {
-            some = omega arith;
-            within = omega (arith, long, lt);
-            passes = walked at ∙ rw (lower, upper, passes) refl;
-            first = λ j some less. all_off f s v told j h some (λ k same. walked k ∙ walked_off says lo hi s k (λ le hi. is.before k le (omega (arith, same, less))));
-          }))
+          some = omega arith;
+          within = omega (arith, long, lt);
+          passes = walked at ∙ rw (lower, upper, passes) refl;
+          first = λ j some less. all_off f s v told j h some (λ k same. walked k ∙ walked_off says lo hi s k (λ le hi. is.before k le (omega (arith, same, less))));
+        }))

@@ -1,4 +1,4 @@
-use Rattle.std.proofs.Common.{◌≡◌, ◌∙◌, Bool, sym, ap}
+use Rattle.std.proofs.Common.{◌∙◌, Bool, sym, ap}
 use Rattle.std.specs.Prelude.{◌&&◌}
 use Rattle.sctp_send.specs.inner.Testing.{index_of}
 use Rattle.sctp_send.specs.inner.Weighing.{is_item_flying}

@@ -3,7 +3,6 @@ use Rattle.sctp_send.specs.PartsKept.{OutstandingKept}
 use Rattle.sctp_send.specs.inner.Changes.{stood}
 use Rattle.sctp_send.specs.inner.Marking.{timed_if}
 use Rattle.sctp_send.specs.inner.Testing.{index_of}
-use Rattle.sctp_send.specs.declared.kept.entry.Entry.{Entry as EntryFields}
 use Rattle.sctp_send.specs.declared.kept.entry.Standing.TheVariants.{Marked}
 use Rattle.sctp_send.proofs.kept.StoodLemmas.{changed_same, changed_none}
 use Rattle.sctp_send.proofs.kept.ChangedLemmas.{count_changed}

@@ -1,6 +1,6 @@
 use Rattle.std.proofs.Common.{[], refl, sym, ap, ◌∙◌}
 use Rattle.sctp_model.specs.sender.Filling.{fill}
-use Rattle.sctp_model.proofs.sender.FillLaws.{goes_none, stopped_is_fill, one_fill, fill_is_fill}
+use Rattle.sctp_model.proofs.sender.FillLaws.{goes_none, stopped_is_fill}
 use Rattle.sctp_packet.specs.Draft.{room_in}
 use Rattle.sctp_send.specs.FillAnswers.{sendings_of}
 use Rattle.sctp_send.specs.SenderStands.{StandsFor}

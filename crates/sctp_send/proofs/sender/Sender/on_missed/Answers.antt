@@ -1,4 +1,4 @@
-use Rattle.std.proofs.Common.{◌≡◌, ℕ, Bool, suc, ◌+◌, subst, sym, refl}
+use Rattle.std.proofs.Common.{ℕ, Bool, suc, ◌+◌, subst, sym, refl}
 use Rattle.sctp_send.specs.SenderKept.{Kept}
 use Rattle.sctp_send.specs.SenderStands.{StandsFor, Keeps}
 use Rattle.sctp_send.specs.inner.Testing.{passes_between}

@@ -17,7 +17,7 @@ loop-at-init g c =
       less = omega arith;
       end = c.len-at-end.ensures;
       rest = ap (λ (ks : List ℕ). c.args.list.now.items ++ map (index_of c.args.cum) ks) (sym (listed_behind g.F.Framing.format c.args.room 0 c.first_repeat-at.result xs c.first_repeat-at.ensures.none
-      ∙ ap (λ (n : ℕ). repeats_from g.F.Framing.format c.args.room n (drop c.first_repeat-at.result xs)) zeroed));
+          ∙ ap (λ (n : ℕ). repeats_from g.F.Framing.format c.args.room n (drop c.first_repeat-at.result xs)) zeroed));
     }
 
 pub returns-then-taken-left : goal.returns-then-taken-left
@@ -57,7 +57,7 @@ loop-at-preserved g c =
             less = omega (arith, less, left);
             end = h.end;
             rest = rw (w.list-is, left, pushed) (append_assoc before (w.index_at.result ∷ []) (map (index_of c.args.cum) more)
-            ∙ ap (λ (i : ℕ). before ++ i ∷ map (index_of c.args.cum) more) w.index_at.ensures ∙ ap (λ (ks : List ℕ). before ++ map (index_of c.args.cum) ks) (sym step) ∙ rest);
+                ∙ ap (λ (i : ℕ). before ++ i ∷ map (index_of c.args.cum) more) w.index_at.ensures ∙ ap (λ (ks : List ℕ). before ++ map (index_of c.args.cum) ks) (sym step) ∙ rest);
           }
       | else-is_repeat w ↦
           let left = w.left-is in
