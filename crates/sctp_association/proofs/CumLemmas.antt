@@ -7,7 +7,7 @@ use Rattle.sctp_model.specs.sender.Outgoing.{Request}
 use Rattle.sctp_model.specs.sender.SenderView.{SenderView}
 use Rattle.sctp_model.specs.sender.Words.{count_up}
 use Rattle.sctp_model.specs.sender.Abandoning.{abandon_after, is_overdue, expire_one, expired, worn}
-use Rattle.sctp_model.specs.sender.Resetting.{takes_next, retried_in, retried, reset_answered, answered_in, is_open_number, response_taken}
+use Rattle.sctp_model.specs.sender.Resetting.{asked, takes_next, retried_in, retried, reset_answered, answered_in, is_open_number, response_taken}
 use Rattle.sctp_model.specs.sender.SackTaken.{sack_fault, sack_taken, sack_after, shutdown_fault, shutdown_taken, shutdown_after}
 use Rattle.sctp_model.specs.end.Pacing.{Pace}
 use Rattle.sctp_model.proofs.sender.AbandonCases.{after_abandon}
@@ -83,6 +83,9 @@ wear_stays test v =
 either : (v x y : SenderView) (b : Bool) → v.cum ≤ x.cum → v.cum ≤ y.cum → v.cum ≤ (if b then x else y).cum
 either v x y true one other = one
 either v x y false one other = other
+
+pub asked_stays : (v : SenderView) (b : Bool) → v.cum ≤ (if b then asked v else v).cum
+asked_stays v b = either v (asked v) v b (no_lower v.cum) (no_lower v.cum)
 
 retry_in : (v : SenderView) (o : Option Request) → v.cum ≤ (retried_in v o).cum
 retry_in v None = no_lower v.cum

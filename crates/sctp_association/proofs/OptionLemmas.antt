@@ -40,23 +40,19 @@ waits_are c o = λ i. record { first = o.first_wait i; least = c.least_wait; lon
 
 -- ---- HEARTBEATs
 
+either : {A : Type 0} (b : Bool) (x : A) → (if b then x else x) ≡ x
+either true x = refl
+either false x = refl
+
 -- a packet starts no timer for them
 pub unbeating_after : (ws : List Wish) (v : EndView) → HasPlainOptions v.configuration → beating_after ws v ≡ v
 unbeating_after ws v o =
     ap (λ (x : Option ℕ). with_timer BeatAlarm (if 0 == length ws then v.timers BeatAlarm else beat_timer x v) v) o.heartbeat
-    ∙ ap (λ (t : Timer). with_timer BeatAlarm t v) (either (0 == length ws)) ∙ (λ i. record v { timers = put_beat_back v.timers i })
-  where
-    either : (b : Bool) → (if b then v.timers BeatAlarm else v.timers BeatAlarm) ≡ v.timers BeatAlarm
-    either true = refl
-    either false = refl
+    ∙ ap (λ (t : Timer). with_timer BeatAlarm t v) (either (0 == length ws) (v.timers BeatAlarm)) ∙ (λ i. record v { timers = put_beat_back v.timers i })
 
 -- a HEARTBEAT ACK answers none
 pub unheard : (v : EndView) (info : List ℕ) → v.beats ≡ no_beats → beat_heard v info ≡ v
-unheard v info none = unanswered v info (ap (λ (b : Beats). beat_trip (record v { beats = b }) info) none ∙ never (hears (λ g. true) v.phase && is_beat_said (record v { beats = no_beats }) info))
-  where
-    never : (b : Bool) → (if b then None else None) ≡ None
-    never true = refl
-    never false = refl
+unheard v info none = unanswered v info (ap (λ (b : Beats). beat_trip (record v { beats = b }) info) none ∙ either (hears (λ g. true) v.phase && is_beat_said (record v { beats = no_beats }) info) None)
 
 -- ---- closing
 

@@ -1,10 +1,12 @@
 use Rattle.std.proofs.Common.{◌∙◌, ap, refl, sym}
 use Rattle.std.proofs.lemmas.Bool.{false≢true}
+use Rattle.std.specs.Prelude.{if◌then◌else◌}
 use Rattle.sctp_model.specs.sender.SenderView.{SenderView}
+use Rattle.sctp_model.specs.sender.Resetting.{may_ask, asked}
 use Rattle.sctp_association.specs.MachineStands.{MachineStands}
 use Rattle.sctp_association.proofs.MachineLemmas.{at_view, joined, unjoined, with_traffic}
 use Rattle.sctp_association.proofs.AskLemmas.{never_asks, never_may, went_on, stayed}
-use Rattle.sctp_association.proofs.CumLemmas.{no_lower}
+use Rattle.sctp_association.proofs.CumLemmas.{no_lower, asked_stays}
 use Rattle.sctp_association.proofs.machine.Machine.ask_sender.Goals as goal
 
 pub returns-in-Unjoined-clause-step : goal.returns-in-Unjoined-clause-step
@@ -22,7 +24,7 @@ returns-in-Joined-clause-before c = λ v stands may. c.ask.ensures.before _ v.se
 pub returns-in-Joined-clause-step : goal.returns-in-Joined-clause-step
 unfolding MachineStands
 returns-in-Joined-clause-step c = λ v stands.
-    went_on c.ask.result (λ went. with_traffic _ _ _ v _ v.receiver c.in-Joined.is stands went (no_lower v.sender.cum) refl refl) (c.ask.ensures.step _ v.sender v.receiver (joined _ _ v c.in-Joined.is stands).traffic)
+    went_on c.ask.result (λ went. with_traffic _ _ _ v (if may_ask v.sender then asked v.sender else v.sender) v.receiver c.in-Joined.is stands went (asked_stays v.sender (may_ask v.sender)) refl refl) (c.ask.ensures.step _ v.sender v.receiver (joined _ _ v c.in-Joined.is stands).traffic)
 
 pub returns-in-Joined-clause-memory : goal.returns-in-Joined-clause-memory
 unfolding MachineStands
