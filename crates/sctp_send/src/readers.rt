@@ -5,7 +5,7 @@ pub mod queued_on;
 ghost use Rattle.std.specs.Prelude.{◌≡◌, ℕ, Bool, ◌<◌, ◌≤◌, ◌^◌, ◌%◌, ◌*◌, ◌&&◌, not, map, length};
 ghost use Rattle.sctp_model.specs.numbers.Limits.{WINDOW, QUEUE_LIMIT, LONGEST_MESSAGE};
 ghost use Rattle.sctp_model.specs.sender.SenderView.{SenderView};
-ghost use Rattle.sctp_model.specs.sender.Readers.{point, unsettled, drained, outstanding, abandoned, acknowledged};
+ghost use Rattle.sctp_model.specs.sender.Readers.{point, unsettled, drained, has_more, outstanding, abandoned, acknowledged};
 ghost use Rattle.sctp_send.specs.OutstandingFields.{item_meaning};
 ghost use Rattle.sctp_send.specs.SenderFields.{track_meaning};
 ghost use Rattle.sctp_send.specs.SenderStands.{StandsFor};
@@ -72,6 +72,20 @@ impl<F: Framing> Sender<F> {
             return false;
         }
         self.parts.outstanding.len() == 0
+    }
+
+    /// Whether something waits to be sent: a chunk that is marked for retransmission, or has a TSN and was never sent, a message in the queue, or the rest
+    /// of one. It costs four tests if nothing does, and a search if a chunk was marked or never sent at the last fill.
+    pub fn has_more(&self) -> bool
+        ensures { (v : SenderView) → StandsFor F.format self.now v → result ≡ has_more v }
+    {
+        if self.parts.queue.len() > 0 {
+            return true;
+        }
+        if self.parts.streams.in_part() > 0 {
+            return true;
+        }
+        self.parts.outstanding.has_pending()
     }
 
     /// The number of messages in the queue: accepted, and no fragment has a TSN yet. At most 1,024.

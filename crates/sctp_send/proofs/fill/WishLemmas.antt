@@ -84,7 +84,7 @@ none_offset v test on from (e ∷ es) h is k lt = by_test (test (item_here v fro
 split : (c j : ℕ) → c < j → suc c + (j - suc c) ≡ j
 split c j lt = omega arith
 
-lowest_offset : (f : Format) (s : Kept) (v : SenderView) (test : Item → Bool) (on : ℕ → Bool) (at : ℕ) → Keeps f s v → Agrees v test on (suc v.cum) (drop v.cum v.plan.entries)
+pub lowest_offset : (f : Format) (s : Kept) (v : SenderView) (test : Item → Bool) (on : ℕ → Bool) (at : ℕ) → Keeps f s v → Agrees v test on (suc v.cum) (drop v.cum v.plan.entries)
     → ((j : ℕ) → 0 < j → j ≤ v.cum → on j ≡ false) → first_offset test s.items ≡ Some at → lowest on (length v.plan.entries) ≡ Some (suc (v.cum + at))
 lowest_offset f s v test on at k h below is =
     let r = found_offset v test on (suc v.cum) at (drop v.cum v.plan.entries) h (ap (first_offset test) (sym k.holds.items) ∙ is) in

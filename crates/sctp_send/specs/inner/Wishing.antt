@@ -1,5 +1,5 @@
 -- What is to go out next, among what is kept, and whether it may flow (RFC 9260, 6.1 and 6.3.3).
-use Rattle.std.specs.Prelude.{ℕ, suc, ◌+◌, ◌==◌, nat_le, not, ◌&&◌, ◌||◌, Bool, if◌then◌else◌, List, [], ◌∷◌, length, Option, None, Some, option_map}
+use Rattle.std.specs.Prelude.{ℕ, suc, ◌+◌, ◌==◌, nat_le, not, ◌&&◌, ◌||◌, Bool, if◌then◌else◌, List, [], ◌∷◌, length, Option, None, Some, option_map, is_some}
 use Rattle.sctp_model.specs.sender.Entries.{bytes_in}
 use Rattle.sctp_model.specs.end.Control.{whole}
 use Rattle.sctp_send.specs.SenderKept.{Item}
@@ -22,6 +22,10 @@ is_item_unsent x = not x.sent && (not x.covered && not x.abandoned)
 -- one of the two
 abbrev pub is_item_wanted : (again : Bool) → Item → Bool
 is_item_wanted again x = if again then is_item_marked x else is_item_unsent x
+
+-- one is found of the one kind, or of the other
+abbrev pub some_pending : List Item → Bool
+some_pending xs = is_some (first_offset is_item_marked xs) || is_some (first_offset is_item_unsent xs)
 
 -- ---- bytes in flight
 
