@@ -11,3 +11,4 @@ pub mod AfterLemmas
 pub mod SentLemmas
 pub mod ToldLemmas
 pub mod AgainLemmas
+pub mod BackLemmas

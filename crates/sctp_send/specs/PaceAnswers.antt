@@ -1,13 +1,15 @@
 -- What congestion control asks of a sender (RFC 9260, 6.3.1 and 7.2), in terms of a view that the sender stands for.
-use Rattle.std.specs.Prelude.{◌≡◌, ℕ, ◌<◌, ◌≤◌, Bool, nat_le, nat_lt, true, false, not, ◌&&◌, length, Option, IfSome}
+use Rattle.std.specs.Prelude.{◌≡◌, ℕ, ◌<◌, ◌≤◌, Bool, nat_le, nat_lt, true, false, not, ◌&&◌, ◌==◌, List, length, Option, IfSome}
+use Rattle.std.specs.List.{list_any, All}
 use Rattle.sctp_model.specs.messages.Format.{Format}
 use Rattle.sctp_model.specs.messages.Framing.{header_of}
 use Rattle.sctp_model.specs.sender.SenderView.{SenderView}
 use Rattle.sctp_model.specs.sender.Words.{lowest}
 use Rattle.sctp_model.specs.sender.Entries.{is_in_flight, passes_at}
 use Rattle.sctp_model.specs.end.Trips.{was_given_up}
-use Rattle.sctp_model.specs.end.Misses.{moves, newest}
+use Rattle.sctp_model.specs.end.Misses.{moves, newest, is_taken_back}
 use Rattle.sctp_model.specs.end.Control.{newly_acked}
+use Rattle.sctp_send.specs.FillAnswers.{AreRising}
 use Rattle.sctp_send.specs.declared.pace.weight.Weight.{Weight}
 
 -- ---- what is missed (7.2.4)
@@ -37,3 +39,9 @@ pub record IsWeight (f : Format) (v u : SenderView) (timed : Option ℕ) (w : We
   pub inside : w.newest_in_recovery ≡ newest true v u
   pub bytes : w.bytes ≡ newly_acked (header_of f) v u
   pub acked : IfSome timed (λ i. w.acked ≡ (nat_lt v.cum i && (u.covered i && not (was_given_up v i))))
+
+-- These are the indexes above CUM that it takes back, by rising index, all of them assigned (6.2.1, D iii).
+pub record AreTakenBack (v u : SenderView) (is : List ℕ) : Type 0 where
+  pub those : (i : ℕ) → v.cum < i → list_any (λ j. j == i) is ≡ is_taken_back v u i
+  pub rising : AreRising v.cum is
+  pub within : All (λ i. i ≤ length v.plan.entries) is

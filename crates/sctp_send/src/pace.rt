@@ -3,6 +3,7 @@
 pub mod flying;
 pub mod last;
 pub mod repeats;
+pub mod taking_back;
 pub mod tally;
 pub mod weighing;
 pub mod weight;

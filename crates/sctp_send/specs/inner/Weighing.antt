@@ -1,12 +1,13 @@
 -- What congestion control asks of the items above CUM (RFC 9260, 6.1, 6.3.1 and 7.2).
 use Rattle.std.specs.Prelude.{◌≡◌, ℕ, zero, suc, ◌+◌, ◌-◌, ◌<◌, ◌≤◌, ◌%◌, ◌^◌, nat_le, Bool, true, false, not, ◌&&◌, ◌||◌, if◌then◌else◌, List, [], ◌∷◌, length, slice_get, Option, None, Some}
 use Rattle.std.specs.Option.{option_map_or}
-use Rattle.sctp_model.specs.wire.Chunk.{padded}
+use Rattle.sctp_model.specs.wire.Chunk.{padded, BlockMeaning}
 use Rattle.sctp_model.specs.end.Control.{whole}
 use Rattle.sctp_model.specs.messages.Format.{Format}
 use Rattle.sctp_model.specs.messages.Framing.{header_of}
 use Rattle.sctp_model.specs.sender.SenderView.{SenderView}
 use Rattle.sctp_model.specs.sender.Words.{some_passes, sum_below, last_that}
+use Rattle.sctp_model.specs.sender.SackTaken.{sack_covers}
 use Rattle.sctp_send.specs.SenderKept.{Item}
 use Rattle.sctp_send.specs.CoveredRuns.{in_runs}
 use Rattle.sctp_send.specs.declared.kept.entry.CoveredRun.{CoveredRun}
@@ -60,6 +61,10 @@ passes_here test xs k = some_passes test (slice_get xs k)
 -- the item at an offset is in flight, and its index passes
 abbrev pub flies_and_passes : (says : ℕ → Bool) → (cum : ℕ) → List Item → ℕ → Bool
 flies_and_passes says cum xs k = passes_here is_item_flying xs k && says (index_of cum k)
+
+-- a gap block acknowledges the item at an offset, and a SACK whose cumulative TSN passes so many entries, with these blocks, doesn't
+abbrev pub is_uncovered : List Item → (passed : ℕ) → List BlockMeaning → ℕ → Bool
+is_uncovered xs n bs k = passes_here is_item_closed xs k && not (sack_covers n bs (suc k))
 
 -- ---- the first that passes
 
