@@ -4,6 +4,7 @@ mod ListeningLemmas
 mod MeetingLaws
 mod PeerLaws
 mod ProductLaws
+mod ReportedLemmas
 mod RoutingLaws
 mod SocketLemmas
 mod TableLemmas

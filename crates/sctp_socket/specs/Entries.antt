@@ -1,12 +1,14 @@
 -- What one association of a table becomes.
-use Rattle.std.specs.Prelude.{◌≡◌, ℕ, true, false, List, Option, Some, None, Result, Ok, Err, if◌then◌else◌, ◌==◌}
+use Rattle.std.specs.Prelude.{◌≡◌, ℕ, Bool, true, false, List, Option, Some, None, Result, Ok, Err, if◌then◌else◌, ◌==◌}
 use Rattle.sctp_model.specs.wire.Packet.{Packet}
 use Rattle.sctp_model.specs.end.EndView.{Draw, EndView}
+use Rattle.sctp_model.specs.end.Clock.{at_moment}
 use Rattle.sctp_values.specs.declared.no_memory.NoMemory.{NoMemory}
 use Rattle.sctp_endpoint.specs.Handled.{IsRead}
 use Rattle.sctp_endpoint.specs.declared.after.Verdict.{Verdict}
 use Rattle.sctp_endpoint.specs.declared.after.Verdict.TheVariants.{Taken, Dropped, Answer}
-use Rattle.sctp_socket.specs.Ends.{Hears}
+use Rattle.sctp_endpoint.specs.declared.transmit.Sent.{Sent}
+use Rattle.sctp_socket.specs.Ends.{Hears, Sends}
 use Rattle.sctp_socket.specs.Numbers as numbers
 use Rattle.sctp_socket.specs.Peers.{followed}
 use Rattle.sctp_socket.specs.Table.{Replaced, entry_of, next_of, tagged}
@@ -42,3 +44,14 @@ module _ {E : Type 0} (Stands : E → EndView → Type 0) where
   EndHeard t number from now bytes d None u = entry_of t number ≡ None
   EndHeard t number from now bytes d (Some r) u = (e : Entry E) × (f : E) × (entry_of t number ≡ Some e)
       × ((v : EndView) (o : Option Packet) → Stands e.end v → IsRead bytes o → Hears Stands v now d o r f) × Replaced t number (heard_entry r e from f) u
+
+  -- The next packet of an association's endpoint, and where it goes; none once its peer has restarted.
+  abbrev pub EntrySendsIf : (current : Bool) → Entry E → (now : ℕ) → Result (Option (Peer × Sent)) NoMemory → Entry E → Type 0
+  EntrySendsIf false e now r f = (r ≡ Ok None) × (f ≡ e)
+  EntrySendsIf true e now (Ok None) f = (f ≡ record e { end = f.end }) × ((v : EndView) → Stands e.end v → Sends Stands (at_moment v now) None f.end)
+  EntrySendsIf true e now (Ok (Some s)) f = (f ≡ record e { end = f.end }) × (s.0 ≡ e.peer) × ((v : EndView) → Stands e.end v → Sends Stands (at_moment v now) (Some s.1) f.end)
+  EntrySendsIf true e now (Err why) f = (f ≡ record e { end = f.end }) × ((v : EndView) → Stands e.end v → Stands f.end v)
+
+  -- by whether it has
+  abbrev pub EntrySends : Entry E → (now : ℕ) → Result (Option (Peer × Sent)) NoMemory → Entry E → Type 0
+  EntrySends e now r f = EntrySendsIf e.current e now r f

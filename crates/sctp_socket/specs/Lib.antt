@@ -9,7 +9,9 @@ pub mod Opposite
 pub mod Peers
 pub mod Places
 pub mod Product
+pub mod Reported
 pub mod Routing
+pub mod Sending
 pub mod SocketStands
 pub mod SocketView
 pub mod Table

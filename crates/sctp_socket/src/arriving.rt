@@ -31,7 +31,7 @@ impl<E: SocketEnd + Drop> Socket<E> {
     ///
     /// It is for the association with its verification tag; an INIT, a COOKIE ECHO, and what shows the peer's tag, for the latest one with the peer that it is from. What is for none
     /// is answered as by a listener with the key of that peer, of which nothing is kept; a valid cookie begins an association, in the place of a call if there is one (RFC 9260,
-    /// 5.2).
+    /// 5.2). After each call see `poll_transmit`.
     ///
     /// # Errors
     /// `NoMemory` if an allocation failed: of the packet of an association only the chunks before the one that needed memory took effect; else nothing but the time changed.

@@ -95,4 +95,12 @@ impl<E: SocketEnd + Drop> Socket<E> {
             Some(entry) => Some(entry.peer),
         }
     }
+
+    /// The endpoint of the association with this number, for what its user asks: `send`, `take`, `abandon`, `reset`, `shutdown`, `abort` and others.
+    pub fn end_mut(&mut self, number: u64) -> Option<&mut E> {
+        match self.table.entries.values.get_mut(&number) {
+            None => None,
+            Some(entry) => Some(&mut entry.end),
+        }
+    }
 }

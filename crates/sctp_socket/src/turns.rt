@@ -49,4 +49,25 @@ impl Turns {
             self.waiting.rotate_left(1);
         }
     }
+
+    /// How many there are.
+    pub(crate) fn len(&self) -> usize
+        ensures { result ≡ length (waiting_of self.now) }
+    {
+        self.waiting.len()
+    }
+
+    /// The first one.
+    pub(crate) fn first(&self) -> Option<u64>
+        ensures { result ≡ slice_get (waiting_of self.now) 0 }
+    {
+        self.waiting.front().copied()
+    }
+
+    /// The one at this place, from 0.
+    pub(crate) fn get(&self, place: usize) -> Option<u64>
+        ensures { result ≡ slice_get (waiting_of self.now) place }
+    {
+        self.waiting.get(place).copied()
+    }
 }

@@ -43,7 +43,7 @@ impl Machine {
     }
 
     /// The tag of the peer, if one is known.
-    pub(crate) fn peer_tag(&self) -> Option<u32>
+    pub fn peer_tag(&self) -> Option<u32>
         ensures { (v : EndView) → MachineStands self.now v → result ≡ peer_tag v.phase }
     {
         match &self.life {
