@@ -153,8 +153,11 @@ def compare_numbers():
     wanted = {name: int(number) for name, number in re.findall(r'const (\w+): u32 = (\d+);', text('crates/sctp_c/src/codes.rt'))}
     base = wanted.pop('BAD_CONFIG')
     faults_of = {'WrongPort': 'BAD_PORT', 'WrongLimit': 'BAD_PACKET_LIMIT', 'WrongFragment': 'BAD_FRAGMENT', 'WrongBuffer': 'BAD_BUFFER', 'WrongStreams': 'BAD_STREAMS'}
-    for fault, number in re.findall(r'^config_code configured\.(\w+) = (\d+)', text('crates/sctp_terms/specs/Meanings.antt'), re.M):
-        wanted[faults_of[fault]] = base + int(number)
+    meanings = text('crates/sctp_terms/specs/Meanings.antt')
+    found = re.findall(r'^config_fault_meaning fault\.\w+ = configured\.(\w+)', meanings, re.M)  # no configuration has the others yet
+    for fault, number in re.findall(r'^config_code configured\.(\w+) = (\d+)', meanings, re.M):
+        if fault in found:
+            wanted[faults_of[fault]] = base + int(number)
     for _, name, number in re.findall(r'^(fate|state|ended)_number \(?(?:\w+\.InStage |Some )?\w+\.(\w+)\)? = (\d+)', text('crates/sctp_c/specs/Codes.antt'), re.M):
         wanted[re.sub(r'(?<!^)(?=[A-Z])', '_', name).upper()] = int(number)
     for name, number in re.findall(r'^(FAULT|PORTS|TAG|STATE|COOKIE) = (\d+)', text('crates/sctp_model/specs/end/PeerFaults.antt'), re.M):

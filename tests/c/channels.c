@@ -153,6 +153,37 @@ static int is_echoed(struct sctp_endpoint_config config) {
     return 0;
 }
 
+/* A stream that the peer has reset: what it sent before is copied first, in its turn, and then its channel is closed. */
+static int leaves_messages(struct sctp_endpoint_config config) {
+    struct sctp_channels ends[2] = { SCTP_CHANNELS_INIT, SCTP_CHANNELS_INIT };
+    struct sctp_channel_parameters parameters = SCTP_CHANNEL_PARAMETERS_INIT;
+    struct sctp_channel_event event = { 0 };
+    uint64_t ticket = 0;
+    uint8_t text[8];
+    static const struct { uint16_t stream; const char *text; } wanted[3] = { { 0, "one" }, { 1, "two" }, { 0, "three" } };
+    for (int i = 0; i < 2; i++) {
+        struct sctp_endpoint made = SCTP_ENDPOINT_INIT;
+        config.own_port = 5000 + i, config.peer_port = 5001 - i;
+        HOLDS(sctp_endpoint_opened(&made, &config, i ? &peer : &own, i ? &own : &peer) == SCTP_EP_OK && sctp_channels_over(&ends[i], &made, i == 0) == SCTP_EP_OK);
+        for (int stream = 0; stream < 2; stream++) HOLDS(sctp_channels_open_negotiated(&ends[i], &parameters, stream) == SCTP_EP_OK);
+    }
+    for (int i = 0; i < 3; i++) HOLDS(sctp_channels_send(&ends[0], 0, wanted[i].stream, true, (const uint8_t *)wanted[i].text, strlen(wanted[i].text), &ticket) == SCTP_EP_OK);
+    HOLDS(sctp_channels_close(&ends[0], 0) == SCTP_EP_OK && exchange(&ends[0], &ends[1]) == 0);
+    for (int i = 0; i < 3; i++) {
+        size_t length = strlen(wanted[i].text);
+        if (i == 1) HOLDS(sctp_channels_next_event(&ends[1], &event, text, length - 1) == SCTP_EP_NEEDS_ROOM && event.length == length);
+        HOLDS(sctp_channels_next_event(&ends[1], &event, text, sizeof text) == SCTP_EP_OK && event.kind == SCTP_CH_MESSAGE && event.text);
+        HOLDS(event.stream == wanted[i].stream && event.length == length && memcmp(text, wanted[i].text, length) == 0);
+    }
+    HOLDS(sctp_channels_next_event(&ends[1], &event, text, sizeof text) == SCTP_EP_NOTHING && exchange(&ends[0], &ends[1]) == 0);
+    for (int i = 0; i < 2; i++) {
+        HOLDS(sctp_channels_next_event(&ends[i], &event, text, sizeof text) == SCTP_EP_OK && event.kind == SCTP_CH_CLOSED && event.stream == 0);
+        HOLDS(sctp_channels_next_event(&ends[i], &event, text, sizeof text) == SCTP_EP_NOTHING);
+        sctp_channels_free(&ends[i]);
+    }
+    return 0;
+}
+
 int main(void) {
     struct sctp_channels a = SCTP_CHANNELS_INIT, b = SCTP_CHANNELS_INIT;
     struct sctp_endpoint end = SCTP_ENDPOINT_INIT, other = SCTP_ENDPOINT_INIT;
@@ -170,7 +201,7 @@ int main(void) {
     size_t length = 0;
 
     HOLDS(sizeof(struct sctp_channels) == 16 && sizeof parameters == 16 && sizeof(struct sctp_channel_event) == 40);
-    HOLDS(nothing_there(&a) == 0 && comes_too_early(&config) == 0 && is_echoed(config) == 0);
+    HOLDS(nothing_there(&a) == 0 && comes_too_early(&config) == 0 && is_echoed(config) == 0 && leaves_messages(config) == 0);
 
     /* Made over an endpoint, whose handle is empty then; over none, and twice. */
     HOLDS(sctp_channels_over(&a, &end, true) == SCTP_EP_MISUSE && !a.full);

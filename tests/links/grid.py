@@ -71,7 +71,7 @@ def at_random(seed, count):
                  chance.choice([None, chance.choice(list(TROUBLES))]), chance.choice([None, chance.choice(list(POLLED))])) for _ in range(count)]
 
 
-# Milliseconds that are wanted, to a peer of 20 gap blocks, to Sidorghu, to usrsctp: what five further rules would be worth (pace_trial.py).
+# Milliseconds that are wanted, to a peer of 20 gap blocks, to Sidorghu, to usrsctp: by a simulation of the five rules of congestion control.
 BLOCKS, SIDORGHU, USRSCTP = 'to a peer of 20 gap blocks', 'to Sidorghu', 'to usrsctp'
 WANTED = [
     (Link(10, 100, 20), {BLOCKS: 9_000, SIDORGHU: 9_000}),

@@ -216,6 +216,16 @@ class Case:
         found.blocks = pairs_of(blocks, 65535)
         return SACKED[sender.on_sack(found)]
 
+    def on_taken_back(self, tsn, *blocks):
+        found = type('Sack', (), {})()
+        found.cumulative, sender = number(tsn, 2**32 - 1), self.of(self.sender)
+        found.blocks = pairs_of(blocks, 65535)
+        back = sorted(sender.taken_back(found))
+        return 'indexes %s up to %d' % (' '.join(map(str, back)), back[-1]) if back else 'nothing'
+
+    def on_has_more(self):
+        return str(self.of(self.sender).has_more()).lower()
+
     def on_shutdown(self, tsn):
         tsn = number(tsn, 2**32 - 1)
         return SACKED[self.of(self.sender).on_shutdown(tsn)]

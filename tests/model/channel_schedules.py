@@ -264,7 +264,8 @@ class Schedule:
             self.law.complete()
 
     def is_moving(self):
-        return any(isinstance(over, Channels) and any(one.ack_owed or one.reset_owed for one in over.streams.values()) for over in self.ends.ends.values())
+        return any(isinstance(over, Channels) and over.end.ended is None and any(one.ack_owed or one.reset_owed for one in over.streams.values())
+                   for over in self.ends.ends.values())
 
 
 class Odd(Schedule):

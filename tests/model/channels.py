@@ -242,9 +242,9 @@ class Channels:
         return None
 
     def leave(self, number):
-        """The stream is free, or the peer has reset it again; once the association is over that counts no more."""
+        """The stream is free, or the peer has reset it again."""
         again = self.streams.pop(number).again
-        if again is not None and self.end.ended is None:
+        if again is not None:
             self.peer_resets(self.kept(number), again)
 
     def forget(self, number):

@@ -20,14 +20,14 @@ class Counts:
         self.bytes_out += len(packet)
         return packet
 
-    def comes(self, packet, verdict):
-        """Each packet that arrives counts, whatever its verdict; its SACKs do if it is taken, out of date or not."""
+    def comes(self, packet, verdict, zero=False):
+        """Each packet that arrives counts, whatever its verdict; its SACKs do if it is taken, out of date or not. `zero`: its checksum may be 0."""
         self.packets_in += 1
         self.bytes_in += len(packet)
         if verdict[0] == 'dropped':
             self.dropped[verdict[1] - 1] += 1
         elif verdict[0] == 'taken':
-            self.sacks_in += sum(chunk.kind == wire.SACK for chunk in wire.Packet(packet).chunks)
+            self.sacks_in += sum(chunk.kind == wire.SACK for chunk in wire.Packet(packet, zero).chunks)
         return verdict
 
     def line(self, sender):
@@ -37,8 +37,8 @@ class Counts:
                 *self.dropped)
 
 
-def sending(entry, index, missed):
-    """How this fragment goes out. `missed`: below this index each had its third miss indication since the last expiry."""
+def sending(entry, is_missed):
+    """How this fragment goes out; whether it has three miss indications since it went out last."""
     if not entry.sent:
         return FIRST
-    return FAST if index < missed else BY_TIMER
+    return FAST if is_missed else BY_TIMER

@@ -146,11 +146,11 @@ def fragments():
     made.build()
     row('one by the timer, the others wait', made.of_fragments, (5, 1, 0))
     made.sacks((999, (3, 3)), (999, (3, 4)), (999, (3, 5)))
-    row('what was missed three times meanwhile is a fast one', made.builds(9).of_fragments, (5, 1, 2))
+    row('what was missed three times meanwhile is a fast one, what went again isn\'t missed', made.builds(9).of_fragments, (5, 1, 1))
 
     made = Counted('fast-retransmit', fragment=1000).sends(5)
     made.sacks((999, (2, 2)), (999, (2, 3)), (999, (2, 4)))
-    row('what was missed, and then marked by the timer', made.at_next().builds(9).of_fragments, (5, 2, 0))
+    row('what was missed, and is marked by the timer before it goes', made.at_next().builds(9).of_fragments, (5, 1, 1))
 
     made = Counted('congestion-control', fragment=1000).sends(5)
     made.sacks((999, (2, 2)), (999, (2, 3)), (999, (2, 4)))

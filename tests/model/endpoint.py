@@ -3,8 +3,10 @@
 import struct
 
 import wire
+from beats import Beats
+from config import Config
 from counts import Counts
-from pace import FIRST_WAIT, LEAST_WAIT, LONGEST_WAIT, Before, Pace
+from pace import LONGEST_WAIT, Before, Pace, Waits
 from receiver import BAD, NO_SUCH_STREAM, TAKEN as PIECE_TAKEN, Receiver
 from sender import STALE as STALE_SACK, UNKNOWN, Sender
 from wire import Chunk, Cookie, Fault, Forward, Opening, Packet, Piece, Sack, chunk, item, padded
@@ -22,50 +24,8 @@ FAULT, WRONG_PORTS, WRONG_TAG, WRONG_STATE, BAD_COOKIE = 1, 2, 3, 4, 5
 TAKEN = ('taken',)
 
 LAST_MOMENT = 2**64 - 1
-OPENING_REPEATS, OTHER_REPEATS = 8, 10
 SACK_DELAY = 200
-
-
-class Config:
-    def __init__(self, own_port, peer_port, limit, fragment, buffer, streams, partial, interleave,
-                 delay=False, standard_closing=False, fast_retransmit=False, congestion_control=False, rto_min=LEAST_WAIT,
-                 reset=False):
-        """`outbound`: the streams that it asks for; `inbound`: those that it accepts. `delay`: a SACK may
-        wait (RFC 9260 section 6.2). `standard_closing`: the timers of a closing go by RFC 9260 sections
-        6.3.2, 8.1 and 9.2, not by the profile. `fast_retransmit`: round trips are measured, and what three
-        SACKs missed goes again (6.3.1, 7.2.4); `congestion_control`: this too, and a window (7.2). `reset`:
-        streams may be reset (RFC 6525)."""
-        self.own_port, self.peer_port, self.limit, self.fragment = own_port, peer_port, limit, fragment
-        self.buffer, self.outbound, self.inbound = buffer, streams, streams
-        self.partial, self.interleave, self.reset = partial, interleave, reset
-        self.delay, self.standard_closing = delay, standard_closing
-        self.fast_retransmit = fast_retransmit or congestion_control
-        self.congestion_control, self.rto_min = congestion_control, rto_min
-
-    @property
-    def streams_alone(self):
-        """The streams each way of an end that takes its peer to be configured as itself (section 5.1.1)."""
-        return min(self.outbound, self.inbound)
-
-    def would_agree(self, other):
-        """Whether two ends that take each other to be configured alike are right in what both must know."""
-        return ((self.streams_alone, self.partial, self.interleave, self.reset)
-                == (other.streams_alone, other.partial, other.interleave, other.reset))
-
-    def options(self):
-        """The option parameters of INIT and INIT ACK (RFC 3758 3.3, RFC 6525 5.1.1, RFC 8260 2.2.1)."""
-        types = bytes([wire.I_DATA] * self.interleave + [wire.RE_CONFIG] * self.reset + [wire.FORWARD_TSN] * self.partial
-                      + [wire.I_FORWARD_TSN] * (self.partial and self.interleave))
-        return (([item(wire.FORWARD_SUPPORTED)] if self.partial else [])
-                + ([item(wire.SUPPORTED_EXTENSIONS, types)] if types else []))
-
-    def agreed(self, opening):
-        """(partial reliability, I-DATA, stream reset) with a peer that sent this INIT or INIT ACK."""
-        interleave = self.interleave and opening.lists(wire.I_DATA)
-        partial = self.partial and opening.partial
-        if interleave:
-            partial = partial and opening.lists(wire.I_FORWARD_TSN)
-        return partial, interleave, self.reset and opening.lists(wire.RE_CONFIG)
+GUARD_WAITS = 5                          # T5-shutdown-guard: so many times RTO.Max (section 9.2)
 
 
 class Writer:
@@ -90,10 +50,11 @@ class Writer:
 
 
 class Timer:
-    """A wait that doubles at each expiry (RFC 9260 sections 6.3.2 and 6.3.3)."""
+    """A wait that doubles at each expiry, up to RTO.Max (RFC 9260 sections 6.3.2 and 6.3.3)."""
 
-    def __init__(self, repeats):
-        self.repeats, self.count, self.wait, self.expiry = repeats, 0, FIRST_WAIT, None
+    def __init__(self, repeats, waits):
+        self.repeats, self.first, self.longest = repeats, waits.first, waits.longest
+        self.count, self.wait, self.expiry = 0, waits.first, None
 
     def start(self, now):
         if self.expiry is None:
@@ -110,7 +71,7 @@ class Timer:
 
     def renew(self, now):
         """No expiry counts any more, and the wait begins anew where it runs."""
-        self.count, self.wait = 0, FIRST_WAIT
+        self.count, self.wait = 0, self.first
         self.begin_anew(now)
 
     def begin_anew(self, now):
@@ -121,13 +82,19 @@ class Timer:
     def expire(self):
         """Expires once; false where it was repeated as often as may be."""
         self.expiry = None
-        if self.count == self.repeats:
+        return self.count_one()
+
+    def count_one(self):
+        """One more is unanswered; false where that is one too many."""
+        if self.count >= self.repeats:
             return False
         self.count += 1
-        self.wait = min(2 * self.wait, LONGEST_WAIT)
+        self.wait = min(2 * self.wait, self.longest)
         return True
 
 
+# The states in which HEARTBEATs are sent, and those in which closing as a whole is timed.
+BEATING, GUARDED = (ESTABLISHED, PENDING, RECEIVED), (SENT, ACK_SENT)
 # The packet that a state sends again by its own timer, and that timer (sections 5.1 and 9.2).
 STATE_PACKETS = {COOKIE_WAIT: 'init', COOKIE_ECHOED: 'cookie echo', SENT: 'shutdown', ACK_SENT: 'shutdown ack'}
 
@@ -147,14 +114,19 @@ class Endpoint:
         self.own_tag = self.own_tsn = self.peer_tag = None
         self.sender = self.receiver = None
         self.may_reset = False               # both ends may reset their streams
+        self.zero_checksum = False           # packets may have the checksum 0
         self.due = set()
         self.sack_wait = None                # when a SACK that may wait is due
         self.pace, self.counts = None, Counts()
         self.cookie = self.heartbeat = None
         self.causes = []                     # of the ERROR that is due
-        self.timers = {'init': Timer(OPENING_REPEATS), 'cookie echo': Timer(OPENING_REPEATS),
-                       'data': Timer(OTHER_REPEATS), 'shutdown': Timer(OTHER_REPEATS),
-                       'shutdown ack': Timer(OTHER_REPEATS), 'request': Timer(OTHER_REPEATS)}
+        self.beats = Beats(config.heartbeat)
+        self.offered = config.buffer         # the window that was advertised last
+        self.waits = Waits(config.first_wait, config.rto_min, config.longest_wait)
+        opening, other = config.opening_repeats, config.repeats
+        self.timers = {name: Timer(repeats, self.waits) for name, repeats in (
+            ('init', opening), ('cookie echo', opening), ('data', other), ('shutdown', other), ('shutdown ack', other), ('request', other),
+            ('heartbeat', other), ('guard', 0))}
 
     @classmethod
     def opened(cls, config, own, peer):
@@ -162,17 +134,19 @@ class Endpoint:
         end = cls(config)
         end.own_tag, end.own_tsn = own
         end.associate(peer[0], peer[1], config.buffer, config.streams_alone, config.streams_alone,
-                      config.partial, config.interleave, config.reset)
+                      config.partial, config.interleave, config.reset, config.zero_checksum)
         end.state = ESTABLISHED
+        end.is_idle()
         return end
 
-    def associate(self, peer_tag, peer_tsn, peer_rwnd, outbound, inbound, partial, interleave, may_reset):
+    def associate(self, peer_tag, peer_tsn, peer_rwnd, outbound, inbound, partial, interleave, may_reset, zero_checksum):
+        config = self.config
         self.fresh, self.peer_tag = False, peer_tag
-        self.partial, self.interleave, self.may_reset = partial, interleave, may_reset
-        self.sender = Sender(interleave, self.own_tsn, outbound, self.config.fragment, peer_rwnd, partial)
-        self.receiver = Receiver(interleave, peer_tsn, inbound, self.config.buffer)
-        if self.config.fast_retransmit:
-            self.pace = Pace(self.config.congestion_control, self.body_limit(), peer_rwnd)
+        self.partial, self.interleave, self.may_reset, self.zero_checksum = partial, interleave, may_reset, zero_checksum
+        self.sender = Sender(interleave, self.own_tsn, outbound, config.fragment, peer_rwnd, partial, config.longest_message, config.queue_bytes)
+        self.receiver = Receiver(interleave, peer_tsn, inbound, config.buffer, config.reserve, config.most_blocks)
+        if config.fast_retransmit:
+            self.pace = Pace(config.congestion_control, self.body_limit(), peer_rwnd, config.growth, config.for_cubic)
 
     # ---- States ----
 
@@ -182,9 +156,10 @@ class Endpoint:
         if packet is not None and state != self.state:
             self.timers[packet].stop()
             self.due.discard(packet)
-        if state != ESTABLISHED:             # a request goes out there alone (RFC 6525 section 5.1)
-            self.timers['request'].stop()
-            self.due.discard('request')
+        for name, at_home in (('request', (ESTABLISHED,)), ('heartbeat', BEATING), ('guard', GUARDED)):
+            if state not in at_home:         # a request goes out in Established alone (RFC 6525 section 5.1)
+                self.timers[name].stop()
+                self.due.discard(name)
         self.state = state
         if state in STATE_PACKETS:
             self.due.add(STATE_PACKETS[state])
@@ -213,7 +188,9 @@ class Endpoint:
     # ---- Packets out ----
 
     def packet(self, tag, chunks):
-        return self.counts.goes(wire.packet(self.config.own_port, self.config.peer_port, tag, chunks))
+        """With the checksum 0 if that was agreed on, but for an INIT and a COOKIE ECHO (RFC 9653 section 5)."""
+        zero = self.zero_checksum and self.state in (ESTABLISHED, *SHUTDOWN_STATES)
+        return self.counts.goes(wire.packet(self.config.own_port, self.config.peer_port, tag, chunks, zero))
 
     def body_limit(self):
         return self.config.limit - wire.HEADER
@@ -234,6 +211,8 @@ class Endpoint:
             return chunk(wire.COOKIE_ACK)
         if name == 'heartbeat ack':
             return chunk(wire.HEARTBEAT_ACK, self.heartbeat)
+        if name == 'heartbeat':
+            return self.beats.chunk(self.own_tsn)
         if name == 'error':
             return chunk(wire.ERROR, wire.item_list(self.causes))
         if name == 'sack':
@@ -262,6 +241,7 @@ class Endpoint:
         if name == 'error':
             self.causes = []
         elif name == 'sack':
+            self.offered = self.receiver.room()
             self.receiver.sack_sent()
             self.counts.sacks_out += 1
             self.sack_wait = None
@@ -269,8 +249,13 @@ class Endpoint:
             self.timers['data'].start(self.now)
         elif name == 'answers':
             self.receiver.resets.answers_sent()
+        elif name == 'heartbeat':
+            self.beats.sent = self.now
         elif name in self.timers:
             self.timers[name].start(self.now)
+        if name == 'shutdown' and self.config.guard:
+            self.timers['guard'].wait = GUARD_WAITS * self.waits.longest
+            self.timers['guard'].start(self.now)
 
     def poll_transmit(self, now):
         """One packet, or None, and the tickets newly numbered."""
@@ -284,21 +269,27 @@ class Endpoint:
         writer, tickets = Writer(self.config.limit), []
         if 'cookie echo' in self.due:
             self.put_due(writer, ('cookie echo', 'error'))
-        elif self.put_due(writer, ('cookie ack', 'heartbeat ack', 'error', 'sack', 'forward', 'answers', 'request',
+        elif self.put_due(writer, ('cookie ack', 'heartbeat ack', 'heartbeat', 'error', 'sack', 'forward', 'answers', 'request',
                                    'shutdown', 'shutdown ack')) and self.sender is not None:
-            before, last = len(writer.chunks), self.sender.last_sent()
-            if self.pace is not None:
-                writer.narrow(self.pace.room(writer.limit - writer.size, self.sender))
-            tickets = self.sender.fill(writer, self.passed())
-            has_fragments = len(writer.chunks) > before
-            if has_fragments:
-                self.timers['data'].start(self.now)
-            if self.pace is not None:
-                self.pace.sent(self.now, last, self.sender, has_fragments)
+            tickets = self.fill(writer)
         if not writer.chunks:
             return None, []
         self.settle()
         return self.packet(self.peer_tag, writer.chunks), tickets
+
+    def fill(self, writer):
+        """Fragments, as the pace allows them; the tickets newly numbered."""
+        before, last = len(writer.chunks), self.sender.last_sent()
+        if self.pace is not None:
+            writer.narrow(self.pace.room(writer.limit - writer.size, self.sender))
+        tickets = self.sender.fill(writer, *([] if self.pace is None else [self.pace.misses.is_missed]))
+        has_fragments = len(writer.chunks) > before
+        if has_fragments:
+            self.timers['data'].start(self.now)
+            self.is_idle()
+        if self.pace is not None:
+            self.pace.sent(self.now, last, self.sender, self.sender.again, has_fragments)
+        return tickets
 
     def ask(self):
         """A request to reset streams is made as soon as it may be (RFC 6525 section 5.1.2)."""
@@ -308,7 +299,7 @@ class Endpoint:
 
     def request_wait(self):
         """The RTO, where round trips are measured (RFC 6525 section 5.1.1)."""
-        return FIRST_WAIT if self.pace is None else self.pace.trips.rto(self.config.rto_min)
+        return self.waits.first if self.pace is None else self.pace.trips.rto(self.waits)
 
     def put_due(self, writer, names):
         """False where one didn't fit: it stays due and ends the packet."""
@@ -319,11 +310,11 @@ class Endpoint:
                 self.built(name)
         return True
 
-    def opening_chunk(self, kind, before, draw=None, after=()):
-        """INIT or INIT ACK with this end's values (sections 3.3.2 and 3.3.3)."""
+    def opening_chunk(self, kind, before, draw=None, after=(), asked=None):
+        """INIT, or the INIT ACK to the one that asked, with this end's values (sections 3.3.2 and 3.3.3)."""
         tag, tsn = draw or (self.own_tag, self.own_tsn)
         config = self.config
-        parameters = list(before) + config.options()
+        parameters = list(before) + config.options(asked)
         for report in after:
             more = parameters + [report]
             if padded(20 + len(wire.item_list(more))) <= self.body_limit():
@@ -344,7 +335,7 @@ class Endpoint:
         self.settle()
         for name, timer in self.timers.items():
             if timer.is_over(self.now):
-                if not timer.expire():
+                if not (self.beat_over() if name == 'heartbeat' else timer.expire()):
                     self.close(TIMED_OUT)
                     return
                 self.expired(name)
@@ -362,13 +353,55 @@ class Endpoint:
     def expired(self, name):
         if name == 'request':
             self.sender.resets.retry()
-        if name != 'data':
+        if name == 'heartbeat':
+            self.beat()
+        elif name != 'data':
             self.due.add(name)
+        else:
+            if self.pace is not None:
+                self.pace.expired(self.sender)
+            self.sender.on_timeout()
+            self.want_forward()
+
+    # -- HEARTBEATs (sections 8.1 and 8.3)
+
+    def is_idle(self):
+        """From now on nothing is sent: their timer starts anew, if it sends them."""
+        if self.beats.interval is not None:
+            timer = self.timers['heartbeat']
+            timer.wait = self.beats.wait(self.timers['data'].wait, self.own_tag)
+            timer.restart(self.now)
+
+    def is_quiet(self):
+        """Nothing is to be acknowledged."""
+        return not self.sender.unsettled()
+
+    def beat_over(self):
+        """The time of the next one is there: one that wasn't answered counts with the expiries of the data timer, and doubles its wait, if nothing
+        else is to be acknowledged. False where that is one too many."""
+        self.timers['heartbeat'].stop()
+        return not (self.beats.sent is not None and self.is_quiet()) or self.timers['data'].count_one()
+
+    def beat(self):
+        self.beats.next(self.is_quiet())
+        self.due.discard('heartbeat')
+        if self.is_quiet():
+            self.due.add('heartbeat')
+        self.is_idle()
+
+    def heartbeat_acked(self, found):
+        """An answer to the last one: the peer is alive, and the RTO is the one computed. The count is 0 if nothing is to be acknowledged."""
+        if self.sender is None or self.state not in (ESTABLISHED, *SHUTDOWN_STATES):
             return
-        self.sender.on_timeout()
+        trip = self.beats.trip(self.now, self.own_tsn, found.value)
+        if trip is None:
+            return
+        self.beats.sent = None
         if self.pace is not None:
-            self.pace.expired()
-        self.want_forward()
+            self.pace.trips.measure(min(trip, LONGEST_WAIT))
+        self.timers['data'].wait = self.request_wait()
+        if self.is_quiet():
+            self.timers['data'].count = 0
 
     def want_forward(self):
         if self.sender.point() > self.sender.cum:
@@ -413,7 +446,13 @@ class Endpoint:
         return fate
 
     def take(self, stream):
-        return self.receiver.take(stream) if self.receiver is not None else None
+        """With window updates a SACK is due where a quarter of the buffer came free since the last one, and the peer may still send (section 6.2)."""
+        if self.receiver is None:
+            return None
+        message, takes = self.receiver.take(stream), self.state in (ESTABLISHED, PENDING, SENT)
+        if self.config.updates and takes and self.receiver.room() >= self.offered + -(-self.config.buffer // 4):
+            self.due.add('sack')
+        return message
 
     def reset(self, stream):
         """0, or the refusal as a number (RFC 6525 section 5.1)."""
@@ -450,12 +489,13 @@ class Endpoint:
     def handle_packet(self, now, data, draw):
         """('taken',), ('dropped', reason) or ('answer', bytes)."""
         self.take_moment(now)
-        return self.counts.comes(data, self.heard(data, draw))
+        zero = self.zero_checksum and self.state != CLOSED
+        return self.counts.comes(data, self.heard(data, draw, zero), zero)
 
-    def heard(self, data, draw):
-        """What becomes of it."""
+    def heard(self, data, draw, zero):
+        """What becomes of it; `zero`: its checksum may be 0."""
         try:
-            packet = Packet(data)
+            packet = Packet(data, zero)
         except Fault:
             return 'dropped', FAULT
         if (packet.destination, packet.source) != (self.config.own_port, self.config.peer_port):
@@ -510,20 +550,21 @@ class Endpoint:
         if opening.no_streams:
             self.answer(opening.tag, chunk(wire.ABORT, item(wire.INVALID_PARAMETER)))
         config = self.config
-        partial, interleave, may_reset = config.agreed(opening)
+        partial, interleave, may_reset, zero = config.agreed(opening)
         cookie = Cookie(self.now, config.own_port, config.peer_port, draw[0], opening.tag, draw[1],
                         opening.tsn, opening.rwnd, min(config.outbound, opening.inbound),
                         min(opening.outbound, config.inbound),
-                        wire.PARTIAL * partial + wire.INTERLEAVE * interleave + wire.RESET * may_reset)
+                        wire.PARTIAL * partial + wire.INTERLEAVE * interleave + wire.RESET * may_reset + wire.ZERO * zero)
         reports = [item(wire.UNRECOGNIZED, whole) for whole in opening.reports]
         self.answer(opening.tag, self.opening_chunk(
-            wire.INIT_ACK, [item(wire.STATE_COOKIE, cookie.seal(self.key))], draw, reports))
+            wire.INIT_ACK, [item(wire.STATE_COOKIE, cookie.seal(self.key))], draw, reports, opening))
 
     def open_cookie(self, value, tag):
-        """An end that isn't set up for stream reset made no cookie that says so."""
+        """An end that isn't set up for stream reset, or for zero checksums, made no cookie that says so."""
         ports = (self.config.own_port, self.config.peer_port)
         cookie, fault, stale = wire.open_cookie(self.key, value, self.now, ports, tag)
-        if cookie is not None and cookie.options & wire.RESET and not self.config.reset:
+        may_say = wire.PARTIAL + wire.INTERLEAVE + wire.RESET * self.config.reset + wire.ZERO * self.config.zero_checksum
+        if cookie is not None and cookie.options & ~may_say:
             return None, wire.FORM, 0
         return cookie, fault, stale
 
@@ -535,16 +576,17 @@ class Endpoint:
             raise PacketEnds('dropped', BAD_COOKIE)
         self.own_tag, self.own_tsn = cookie.own_tag, cookie.own_tsn
         self.associate(cookie.peer_tag, cookie.peer_tsn, cookie.peer_rwnd, cookie.outbound, cookie.inbound,
-                       *(bool(cookie.options & option) for option in (wire.PARTIAL, wire.INTERLEAVE, wire.RESET)))
-        self.measured(min(max(self.now - cookie.made, 0), LONGEST_WAIT), FIRST_WAIT)
+                       *(bool(cookie.options & option) for option in (wire.PARTIAL, wire.INTERLEAVE, wire.RESET, wire.ZERO)))
+        self.measured(min(max(self.now - cookie.made, 0), LONGEST_WAIT), self.waits.first)
         self.state = ESTABLISHED
+        self.is_idle()
         self.due.add('cookie ack')
 
     # -- In an association: chunk by chunk, each in the state that it finds.
 
     def act(self, chunks, acted):
         self.data_acted = self.forward_acted = self.at_once = False
-        passed = self.passed()
+        third = self.third()
         try:
             for found in chunks:
                 row = self.row(found) if found.kind in wire.KNOWN else self.other_row(found)
@@ -556,18 +598,19 @@ class Endpoint:
                     if self.state == CLOSED:
                         break
         finally:
-            self.wear_missed(passed)
+            self.wear_missed(third)
             self.after_packet()
         return TAKEN if acted else ('dropped', WRONG_STATE)
 
-    def passed(self):
-        """Below this index each had its third miss indication."""
-        return 0 if self.pace is None else self.pace.misses.passed
+    def third(self):
+        """What was sent last before this index, and isn't acknowledged, has its third miss indication."""
+        return 0 if self.pace is None else self.pace.misses.third
 
-    def wear_missed(self, passed):
-        """The end of a packet: what its SACKs would have sent again, and may not be, is abandoned (RFC 7496 section 3.1)."""
-        if self.passed() > passed and self.state != CLOSED:
-            self.abandoning(lambda: self.sender.wear(range(passed, self.passed())))
+    def wear_missed(self, third):
+        """The end of a packet that raised it: what is missed, and may not be sent again, is abandoned (RFC 7496 section 3.1)."""
+        if self.third() > third and self.state != CLOSED:
+            missed = {i for i in self.sender.above_cum() if self.pace.misses.is_missed(i)}
+            self.abandoning(lambda: self.sender.wear(missed))
             self.settle()
 
     def after_packet(self):
@@ -609,7 +652,7 @@ class Endpoint:
         if kind == wire.HEARTBEAT and (state == ESTABLISHED or state in SHUTDOWN_STATES):
             return self.heartbeat_came
         if kind == wire.HEARTBEAT_ACK:
-            return lambda found: None
+            return self.heartbeat_acked
         if kind == wire.ERROR:
             return self.error
         if kind == wire.ABORT:
@@ -680,31 +723,37 @@ class Endpoint:
         """Section 5.1. A COOKIE ECHO that went out once measures a round trip (6.3.1, C5)."""
         timer = self.timers['cookie echo']
         is_timed = timer.count == 0 and timer.expiry is not None
-        self.measured(min(self.now - (timer.expiry - FIRST_WAIT), LONGEST_WAIT) if is_timed else None, timer.wait)
+        self.measured(min(self.now - (timer.expiry - self.waits.first), LONGEST_WAIT) if is_timed else None, timer.wait)
         self.enter(ESTABLISHED)
+        self.is_idle()
 
     def measured(self, trip, wait):
         """The first round trip is the handshake's; where it has none the RTO is the one that its timer had then (6.3.3, E2)."""
         if self.pace is not None:
             if trip is not None:
                 self.pace.trips.measure(trip)
-                wait = self.pace.trips.rto(self.config.rto_min)
+                wait = self.pace.trips.rto(self.waits)
             self.timers['data'].wait = wait
 
     def before(self):
-        """The sender before an acknowledgement; an end without a pace doesn't ask."""
-        return None if self.pace is None else Before(self.sender)
+        """The sender before an acknowledgement; an end without a pace asks for it only to see what a SACK acknowledges."""
+        return None if self.pace is None and not self.config.progress else Before(self.sender)
 
     def acknowledged(self, before):
-        """What an end with a pace does with an acknowledgement that its sender took (6.3.1; 6.3.2, R3 and R4; 7.2)."""
-        if self.pace is None:
-            return
-        computes, starts_anew = self.pace.heard(self.now, before, self.sender)
-        timer = self.timers['data']
-        if computes:
-            timer.wait = self.pace.trips.rto(self.config.rto_min)
+        """An acknowledgement that its sender took: a data timer that rests starts if data is in flight (6.3.2, R4), and what an end with a pace does
+        (6.3.1; 6.3.2, R3; 7.2)."""
+        timer, starts_anew = self.timers['data'], False
+        if self.pace is not None:
+            computes, starts_anew = self.pace.heard(self.now, before, self.sender)
+            if computes:
+                timer.wait = self.pace.trips.rto(self.waits)
         if starts_anew if timer.expiry is not None else self.sender.in_flight() > 0:
             timer.restart(self.now)
+
+    def is_in_vain(self, before):
+        """A SACK that acknowledges nothing new, of a peer with room for a fragment, clears no count (8.1); without room it is probed (6.1, rule A)."""
+        return (self.config.progress and self.sender.cum == before.cum and not before.newly_covered(self.sender)
+                and self.sender.rwnd >= self.config.fragment)
 
     def piece(self, found):
         piece = Piece(found)
@@ -712,6 +761,8 @@ class Endpoint:
             self.abort_with(item(wire.NO_USER_DATA, struct.pack('>I', piece.tsn)))     # section 6.2
         if piece.interleave != self.interleave:
             self.violation()                                                # RFC 8260 section 2.2.1
+        if self.config.strict and self.receiver.is_misnumbered(piece):
+            self.violation()                                                # RFC 8260 section 2.1
         self.data_acted = True
         answer = self.receiver.on_data(piece)
         if piece.immediate or answer != PIECE_TAKEN:
@@ -736,13 +787,13 @@ class Endpoint:
         if refusal is not None:
             self.violation()
         timer = self.timers['data']
-        timer.count = 0
+        if not self.is_in_vain(before):
+            timer.count = 0
         if not self.sender.unsettled():
             timer.stop()
         if self.sender.cum > cum:
-            timer.wait = FIRST_WAIT
-            if timer.expiry is not None:
-                timer.restart(self.now)
+            timer.wait = self.waits.first
+            timer.begin_anew(self.now)
         self.acknowledged(before)
         self.want_forward()
 
@@ -764,7 +815,7 @@ class Endpoint:
             timer.begin_anew(self.now)
         if self.sender.resets.pending is None:
             self.due.discard('request')
-            self.timers['request'] = Timer(OTHER_REPEATS)
+            self.timers['request'] = Timer(self.config.repeats, self.waits)
 
     def heartbeat_came(self, found):
         """Section 8.3; the latest one alone is answered."""

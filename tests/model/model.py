@@ -149,11 +149,15 @@ class Pair:
         partial, interleave = MODES[mode.encode()]
         self.configs = {x: Config(PORT[x], PORT[OTHER[x]], limit, fragment, buffer, streams,
                                   partial, interleave, delay is not None) for x in 'AB'}
-        self.ends = {'A': Endpoint(self.configs['A']), 'B': Endpoint(self.configs['B'], KEY)}
+        self.make_ends()
         self.bags = {'A': [], 'B': []}
         self.tickets = {'A': [], 'B': []}
         self.clocks, self.next_draw = {'A': 0, 'B': 0}, (1, 1)
         self.may_open = True
+
+    def make_ends(self):
+        """By their configurations; nothing has happened to them."""
+        self.ends = {'A': Endpoint(self.configs['A']), 'B': Endpoint(self.configs['B'], KEY)}
 
     # ---- A line `options` ----
 
@@ -165,6 +169,7 @@ class Pair:
                 self.set_option(config, name, *words)
             if not in_range(config.limit, config.fragment, config.buffer, config.outbound, config.inbound):
                 raise LineFault(BAD_VALUE)
+        self.make_ends()
 
     @staticmethod
     def set_option(config, name, *words):

@@ -4,6 +4,7 @@
 `pace_cases.py` prints them; `rows.py` has what the model answers to them.
 """
 
+from burst_cases import burst_cases
 from case_of_end import Case
 from window_cases import window_cases
 
@@ -84,10 +85,15 @@ def misses():
     made = Case('a duplicate of the SACK that missed, in another packet and out of date, indicates nothing', FAST).send(24).build()
     made.sack(1000, (2, 2)).sack(1000, (2, 3)).sack(999).sack(1000, (2, 3)).build()
     yield made.sack(1000, (2, 4)).build().build()
-    made = Case('what was missed three times isn\'t missed again before an expiry, and then anew', FAST).send(40).build()
-    made.loses_first().build().sack(999, (2, 6)).sack(999, (2, 7)).sack(999, (2, 8)).build().look()
-    made.at(1100).build().build().look()
-    yield made.sack(999, (2, 9)).build().sacks((999, (2, 8)), (999, (2, 10))).build().sack(999, (2, 9)).sack(999, (2, 10)).build().look()
+    made = Case('what went again is missed by what was first sent after it, and not by what was sent before', FAST).send(40).build()
+    made.loses_first().build().sack(999, (2, 6)).sack(999, (2, 7)).sack(999, (2, 8)).sack(999, (2, 10)).build().look()
+    made.send(16).build().sack(999, (2, 11)).sack(999, (2, 12)).build().sack(999, (2, 13)).look().build().build()
+    yield made.sack(999, (2, 14)).build().at(600).sack(1013).look()
+    made = Case('after an expiry all goes again: acknowledgements of it miss none of it, three of what is sent later do', FAST).send(24).build()
+    made.at(1100).build()
+    made.alternative().sack(999, (3, 3)).sack(999, (3, 4)).sack(999, (3, 5)).build().sack(999, (3, 6)).build().look()
+    made.alternative().send(12).build().sack(999, (3, 7)).sack(999, (3, 8)).build().sack(999, (3, 9)).look().build().build()
+    yield made.alternative().line('counts').sack(1002).send(12).build().sack(1002, (2, 4)).sack(1002, (2, 5)).sack(1002, (2, 6)).build().line('counts')
     made = Case('fragments below the third largest of the highest TSNs newly acknowledged are missed; the timer begins anew with the first one', FAST).send(40).build()
     made.sack(999, (2, 3)).sack(999, (2, 3), (5, 6)).build().at(200).sack(999, (2, 3), (5, 7)).look().build().build()
     made.at(300).sack(999, (2, 3), (5, 8)).look().build()
@@ -163,7 +169,7 @@ def limits():
     made = Case('at its limit, and acknowledged later in the same packet', FAST).send(4, 'x0').send(16).build()
     made.alternative().sacks((999, (2, 2)), (999, (2, 3)), (999, (2, 4)), (1000, (1, 3))).line('abandoned 1').build()
     yield made.alternative().sacks((999, (2, 2)), (999, (2, 3)), (999, (2, 4))).line('abandoned 1').sack(1000, (1, 3)).build()
-    made = Case('taken back in the packet of the third miss indication, and in the next one', FAST).send().send(4, 'x0').send(12).build()
+    made = Case('taken back in the packet of the third miss indication, and in the next one: it counts as sent then', FAST).send().send(4, 'x0').send(12).build()
     made.alternative().sacks((999, (2, 3)), (999, (2, 4)), (999, (2, 5)), (999, (3, 5))).line('abandoned 2').build()
     yield made.alternative().sacks((999, (2, 3)), (999, (2, 4)), (999, (2, 5))).sack(999, (3, 5)).line('abandoned 2').build()
     made = Case('I-DATA: a message given up at its third miss indication, before it was sent whole', FAST, mode='idata-pr', rwnd=16)
@@ -173,7 +179,7 @@ def limits():
 
 def main():
     print('== Fast retransmission, congestion control, RTO.Min\n')
-    for cases in (round_trips, handshakes, misses, wrong_peers, limits, window_cases):
+    for cases in (round_trips, handshakes, misses, wrong_peers, limits, window_cases, burst_cases):
         for made in cases():
             print(made.text())
 

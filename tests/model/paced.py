@@ -10,7 +10,9 @@ import sys
 import limited
 import model
 import scripts
+import wire
 from endpoint import LAST_MOMENT
+from limited import runs
 
 
 class Paced(limited.Limited):
@@ -48,7 +50,7 @@ class Paced(limited.Limited):
 
     @property
     def more(self):
-        return (self.flows,)
+        return self.flows, self.recovers, self.batches, self.probes
 
     def flows(self):
         """Much is sent, and acknowledged packet by packet, so that the window is in use."""
@@ -69,6 +71,79 @@ class Paced(limited.Limited):
         if self.chance(0.5):
             self.builds()
             self.loses()
+
+
+    def fills(self):
+        """All packets that go now, and whether something is in flight."""
+        for _ in range(70):
+            if (self.line('build', self.x) or 'quiet').startswith('quiet'):
+                break
+        return self.sender is not None and not self.end(self.x).ended and self.sender.last_sent() > self.sender.cum
+
+    def much(self):
+        """Enough for some windows waits to be sent."""
+        fragment = self.pair.configs[self.x].fragment
+        for _ in range(self.pick((1, 2, 4))):
+            self.line('send', self.x, 0, self.pick('oou'), 0, self.until(), '61' * min(self.pick((5, 20, 60)) * fragment, 60000))
+
+    def recovers(self):
+        """Several are lost, and CUM moves by parts; what goes again is lost too, at times, and new data misses it."""
+        self.much()
+        if not self.fills():
+            return
+        sender, count = self.sender, self.sender.last_sent() - self.sender.cum
+        lost = sorted({1, *(self.pick(range(1, count + 1)) for _ in range(self.pick((0, 1, 2, 5))))})
+        for upto in range(2, count + 1):
+            if self.end(self.x).ended or not self.chance(min(1, 12 / count)):
+                continue
+            arrived = {sender.cum + at for at in range(1, upto + 1) if at not in lost}
+            self.sack_packet(sender.cum, *runs(sender.cum, arrived))
+            if self.chance(0.6):
+                self.line('build', self.x)
+        for _ in range(self.pick((1, 3, 6))):
+            if self.end(self.x).ended or self.sender.last_sent() <= self.sender.cum:
+                return
+            index, last = sender.cum + self.pick((0, 1, 1, 2)), sender.last_sent()
+            floor = min(index, last)
+            self.sack_packet(floor, *([(2, last - floor)] if last > floor + 1 and self.chance(0.7) else []))
+            if self.chance(0.8):
+                self.fills()
+
+    def batches(self):
+        """SACKs of packet after packet, with packets between at times only, as a program has them that polls now and then."""
+        self.much()
+        for _ in range(self.pick((1, 2, 4))):
+            if not self.fills():
+                return
+            step, last = self.pick((1, 1, 2, 3)), self.sender.last_sent()
+            for index in range(self.sender.cum + step, last + 1, step):
+                if self.end(self.x).ended:
+                    return
+                if self.chance(0.9):
+                    self.sack_packet(index)
+                if self.chance(0.1):
+                    self.line('build', self.x)
+            if self.chance(0.2):
+                self.expires()
+
+    def probes(self):
+        """Nothing is in flight, the peer has little space or none, and what goes all the same is lost; then it has space again."""
+        sender, fragment = self.sender, self.pair.configs[self.x].fragment
+        window = self.pick((0, 0, 1, fragment - 1, fragment, fragment + 1, 2 * fragment))
+        self.much()
+        for told in (sender.last_sent(), sender.last_sent()):
+            self.comes(wire.sack_chunk(sender.tsn(told), window, [], []))
+            self.fills()
+        for _ in range(self.pick((1, 2, 3))):
+            if self.sender is None or self.end(self.x).ended:
+                return
+            self.expires()
+            self.fills()
+            if self.chance(0.3):
+                self.comes(wire.sack_chunk(sender.tsn(sender.cum), window, [], []))
+        if not self.end(self.x).ended:
+            self.comes(wire.sack_chunk(sender.tsn(sender.last_sent()), self.pick((window, 65536, 2**32 - 1)), [], []))
+            self.fills()
 
 
 def script(seed):

@@ -93,8 +93,7 @@ def misses_and_limits():
     made.says('no partial reliability: it goes again', (made.given_up, made.build()), ([], '1000'))
 
 
-    for packets, wanted in (([((999, (2, 3)), (999, (2, 4)), (999, (2, 5)), (999, (3, 5)))], [2]),
-                            ([((999, (2, 3)), (999, (2, 4)), (999, (2, 5))), ((999, (3, 5)),)], [])):
+    for packets in ([((999, (2, 3)), (999, (2, 4)), (999, (2, 5)), (999, (3, 5)))], [((999, (2, 3)), (999, (2, 4)), (999, (2, 5))), ((999, (3, 5)),)]):
         made = Run('fast-retransmit', fragment=1000)
         made.send('61' * 1000)
         made.send('62' * 1000, 'x0')
@@ -103,7 +102,7 @@ def misses_and_limits():
             made.build()
         for told in packets:
             made.sacks(*told)
-        made.says('taken back in the same packet, and in the next', made.given_up, wanted)
+        made.says('what is taken back counts as sent then: in the same packet, and in the next', made.given_up, [])
 
 
 def waits():
@@ -147,7 +146,7 @@ def late_handshake():
 
 
 def timer_rows():
-    for options, wanted in (('fast-retransmit', (20, 1001, '1000, 1001, 1002, 1003, 1004')), ('delay', (20, None, 'quiet'))):
+    for options in ('fast-retransmit', 'delay'):
         made = Run(options, fragment=4)
         made.send('61' * 20)
         made.build()
@@ -155,7 +154,7 @@ def timer_rows():
         made.at(1)
         made.sack(999)
         flight, moment = made.end.sender.in_flight(), made.next
-        made.says('R4, a peer that takes it back, ' + options, (flight, moment, made.at(1001).build()), wanted)
+        made.says('R4, a peer that takes it back, ' + options, (flight, moment, made.at(1001).build()), (20, 1001, '1000, 1001, 1002, 1003, 1004'))
 
     made = Run('fast-retransmit delay rto-min 200', handshake=0)
     made.send()
@@ -189,12 +188,14 @@ def pace_of_windows():
         if said == 'quiet':
             break
         packets.append(said.count(',') + 1)
-    made.says('the first window: bytes of data, a packet past it at most', (made.window, packets, made.end.sender.in_flight()),
-             ((2256, 16777216), [28] * 21, 2352))
+    made.says('the first window: bytes of whole chunks, a packet past it at most', (made.window, packets, made.end.sender.in_flight()),
+             ((2256, 16777216), [28] * 5, 560))
     made.at(1000)
     made.says('behind an expiry one packet', (made.build().count(',') + 1, made.build(), made.window), (28, 'quiet', (564, 2256)))
     made.sack(1027)
-    made.says('an acknowledgement opens it', [made.build().count(',') + 1 for _ in range(7)], [28, 28, 28, 28, 28, 28, 1])
+    made.says('an acknowledgement opens it', ([made.build().count(',') + 1 for _ in range(2)], made.build(), made.window), ([28, 28], 'quiet', (564, 2256)))
+    made.sack(1055)
+    made.says('which was full, and grows then', ([made.build().count(',') + 1 for _ in range(2)], made.build(), made.window), ([28, 28], 'quiet', (1124, 2256)))
 
     made = Run('congestion-control', fragment=1000)
     made.send('61' * 5000)

@@ -31,6 +31,7 @@ def own():
     made.alternative().responds(1000, 1).send(2).resets(2).build()
     made.alternative().responds(1000, 5).send(2).look().resets(2).build()
     made.alternative().responds(1001, 5).responds(1001, 1).look().responds(1000, 6).at(3100).build().responds(1001, 6).at(4100).build().responds(1002, 1).send(2)
+    made.alternative().responds(1001, 6).responds(1001, 5).at(3100).build().responds(1000, 1).send(2)
     yield made
     made = Resetting('a stream is reset again and again: with nothing sent between every second request names its first stream twice').resets(0, 2).build()
     for number in range(1000, 1003):

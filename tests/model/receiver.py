@@ -33,8 +33,10 @@ class Delivered:
 
 
 class Receiver:
-    def __init__(self, interleave, initial_tsn, streams, buffer):
+    def __init__(self, interleave, initial_tsn, streams, buffer, reserve=0, most_blocks=BLOCK_LIMIT):
+        """`reserve`: bytes of the buffer that a chunk after a gap leaves free; `most_blocks`: gap blocks of a SACK."""
         self.interleave, self.initial, self.streams, self.buffer = interleave, initial_tsn, streams, buffer
+        self.reserve, self.most_blocks = reserve, most_blocks
         self.width = WIDTHS.mid if interleave else WIDTHS.ssn
         self.c = 0                       # the cumulative index
         self.seen = set()                # the indexes seen above c
@@ -67,11 +69,27 @@ class Receiver:
 
     # ---- DATA and I-DATA (RFC 9260 sections 6.2 and 6.6) ----
 
+    def is_duplicate(self, ahead):
+        """So far ahead of the cumulative TSN it is old, or was recorded."""
+        return ahead == 0 or ahead >= 2**(WIDTHS.tsn - 1) or self.c + ahead in self.seen
+
+    def is_misnumbered(self, piece):
+        """No sender may send it: an I-DATA without B says the fragment number 0, or a fragment that is kept already has a new TSN (RFC 8260 section 2.1)."""
+        if not self.interleave:
+            return False
+        if not piece.first and piece.word == 0:
+            return True
+        ahead = (piece.tsn - self.tsn(self.c)) % 2**WIDTHS.tsn
+        if self.is_duplicate(ahead) or ahead > WIDTHS.window or self.c + ahead >= COUNT_END or piece.stream >= self.streams:
+            return False
+        kept = Kept(self.c + ahead, piece, self.count(piece.stream, piece.unordered, piece.number))
+        return any(k.fragment == kept.fragment for k in self.kept.get(kept.key, []))
+
     def on_data(self, piece):
         """The first answer that holds, and its effect."""
         ahead = (piece.tsn - self.tsn(self.c)) % 2**WIDTHS.tsn
         index = self.c + ahead
-        if ahead == 0 or ahead >= 2**(WIDTHS.tsn - 1) or index in self.seen:
+        if self.is_duplicate(ahead):
             if len(self.duplicates) < DUPLICATE_LIMIT:
                 self.duplicates.append(piece.tsn)
             return DUPLICATE
@@ -86,7 +104,7 @@ class Receiver:
         if numbered and self.has_passed(kept):
             self.record(index)
             return PASSED
-        if self.held + len(piece.data) > self.buffer:
+        if self.held + len(piece.data) + (0 if index == self.c + 1 else self.reserve) > self.buffer:
             return NO_ROOM
         self.record(index)
         if piece.unordered and number is not None:
@@ -250,20 +268,24 @@ class Receiver:
         return None
 
     def runs(self):
-        """The lowest 64 maximal runs of what was seen above c, as offsets from it."""
+        """The lowest maximal runs of what was seen above c, 64 unless more are asked for, as offsets from it."""
         runs = []
         for index in sorted(self.seen):
             if runs and index == runs[-1][1] + 1:
                 runs[-1][1] = index
-            elif len(runs) == BLOCK_LIMIT:
+            elif len(runs) == self.most_blocks:
                 break
             else:
                 runs.append([index, index])
         return [(start - self.c, end - self.c) for start, end in runs]
 
+    def room(self):
+        """The window that it advertises: the reserve isn't in it."""
+        return max(self.buffer - self.held - self.reserve, 0)
+
     def sack(self):
         """The SACK chunk that would be sent now (RFC 9260 sections 3.3.4 and 6.2)."""
-        return sack_chunk(self.tsn(self.c), self.buffer - self.held, self.runs(), self.duplicates)
+        return sack_chunk(self.tsn(self.c), self.room(), self.runs(), self.duplicates)
 
     def sack_sent(self):
         self.duplicates = []

@@ -125,7 +125,7 @@ class Outgoing:
             self.pending = None
         elif result in (IN_PROGRESS, ANOTHER_IN_PROGRESS):
             self.pending.numbering = NEXT_NUMBER
-        elif result == BAD_NUMBER and self.pending.numbering == LATER_NUMBER:
+        elif result == BAD_NUMBER and self.made > self.pending.first:
             self.go_back()
         else:
             self.sending.update((stream, REFUSES) for stream in self.pending.streams)
@@ -133,7 +133,8 @@ class Outgoing:
         return True
 
     def go_back(self):
-        """The number before was in progress, and this one isn't the next: the peer didn't count that one, and expects it, or one before it."""
+        """The numbers before this one were in progress, and it isn't the next: the peer didn't count the one before it, and expects that, or an earlier
+        one."""
         self.made -= 1
         self.pending.numbering = FIRST_NUMBER if self.made == self.pending.first else LATER_NUMBER
 

@@ -46,9 +46,11 @@ class Entry:
 
 
 class Sender:
-    def __init__(self, interleave, initial_tsn, streams, fragment, peer_rwnd, partial):
+    def __init__(self, interleave, initial_tsn, streams, fragment, peer_rwnd, partial, longest=MESSAGE_LIMIT, most_queued=None):
+        """`longest`: bytes of a message; `most_queued`: of the messages without TSNs, None without a limit."""
         self.interleave, self.initial, self.streams = interleave, initial_tsn, streams
         self.fragment, self.rwnd, self.partial = fragment, peer_rwnd, partial
+        self.longest, self.most_queued = longest, most_queued
         self.messages = []            # by ticket; ticket n stands at place n - 1
         self.timed = []               # those with a lifetime
         self.queue = []               # without a number, in the order of the send calls
@@ -61,7 +63,7 @@ class Sender:
         self.served = None            # the stream that was served last (RFC 8260 alone)
         self.abandon_order = []       # tickets in the order of abandoning
         self.sendings = [0, 0, 0]     # of fragments: counts.FIRST, BY_TIMER, FAST
-        self.missed = 0               # what a fill counts as missed three times: the indexes below it
+        self.again = []               # what the last fill sent again
         self.resets = Outgoing(self)
 
     # ---- Readers ----
@@ -118,6 +120,25 @@ class Sender:
     def in_flight(self):
         return sum(len(self.plan[i].data) for i in self.above_cum() if self.is_in_flight(i))
 
+    def chunk_size(self, index):
+        """The bytes of its chunk, padded: what congestion control counts (RFC 9260 section 7.2)."""
+        data = len(self.plan[index].data)
+        return padded((20 if self.interleave else 16) + data) if data else 0
+
+    def chunk_flight(self):
+        return sum(self.chunk_size(i) for i in self.above_cum() if self.is_in_flight(i))
+
+    def is_probe(self):
+        """What is in flight is more than the peer has space for, and no more than a fragment has (section 6.1, rule A)."""
+        return self.rwnd < self.in_flight() <= self.fragment
+
+    def has_more(self):
+        """Something waits to be sent: a marked or unsent fragment, a message without TSNs, or the rest of one."""
+        return bool(self.queue or self.parts) or any(self.plan[i].marked or self.is_unsent(i) for i in self.above_cum())
+
+    def queued_bytes(self):
+        return sum(len(message.data) for message in self.queue)
+
     def last_sent(self):
         """The highest index that ever went out."""
         return next((i for i in range(self.last(), 0, -1) if self.plan[i].sent), 0)
@@ -137,9 +158,9 @@ class Sender:
             return -RESETTING
         if not data:
             return -EMPTY
-        if len(data) > MESSAGE_LIMIT:
+        if len(data) > self.longest:
             return -TOO_LONG
-        if len(self.queue) >= QUEUE_LIMIT:
+        if len(self.queue) >= QUEUE_LIMIT or self.most_queued is not None and self.queued_bytes() + len(data) > self.most_queued:
             return -QUEUE_FULL
         message = Message(len(self.messages) + 1, stream, ordered, payload_id, data, until, limit)
         owing = self.queue + list(self.parts.values()) + [message]
@@ -225,6 +246,12 @@ class Sender:
         self.rwnd = sack.rwnd
         return None
 
+    def taken_back(self, sack):
+        """The indexes that went out and are acknowledged, and that this SACK, if it is taken, doesn't acknowledge (section 6.2.1, D iii)."""
+        cum = self.index_of(sack.cumulative)
+        still = {cum + i for start, end in sack.blocks for i in range(start, end + 1)}
+        return [i for i in self.covered if self.plan[i].sent and i > cum and i not in still]
+
     def on_shutdown(self, tsn):
         """A SHUTDOWN's cumulative TSN; what lay covered beyond stays so (section 9.2)."""
         index = self.index_of(tsn)
@@ -243,10 +270,10 @@ class Sender:
 
     # ---- Filling a packet (RFC 9260 sections 6.1 and 6.10) ----
 
-    def fill(self, writer, missed=0):
-        """Appends fragments to the packet; the tickets newly numbered, by first TSN. `missed` is for the counts alone."""
+    def fill(self, writer, is_missed=lambda index: False):
+        """Appends fragments to the packet; the tickets newly numbered, by first TSN. `is_missed` is for the counts alone."""
         tickets = []
-        self.flight, self.missed = self.in_flight(), missed
+        self.flight, self.is_missed, self.again = self.in_flight(), is_missed, []
         # Repeats go first, lowest TSN first; a full window of the peer doesn't hold them (6.1 C).
         for index in [i for i in self.above_cum() if self.plan[i].marked]:
             if not self.put(writer, index):
@@ -288,8 +315,10 @@ class Sender:
     def put(self, writer, index):
         if not writer.put(self.fragment_chunk(index)):
             return False
-        self.sendings[sending(self.plan[index], index, self.missed)] += 1
-        self.plan[index].repeats += self.plan[index].sent
+        self.sendings[sending(self.plan[index], self.is_missed(index))] += 1
+        if self.plan[index].sent:
+            self.again.append(index)
+            self.plan[index].repeats += 1
         self.plan[index].sent, self.plan[index].marked = True, False
         self.flight += len(self.plan[index].data)
         return True

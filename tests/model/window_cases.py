@@ -1,8 +1,8 @@
-"""Cases of crates/sctp_rows with `sctp-end`: the congestion window (RFC 9260, 6.1, 7.2 and 6.3.3)."""
+"""Cases of crates/sctp_rows with `sctp-end`: the congestion window (RFC 9260, 6.1, 7.2 and 6.3.3). `burst_cases.py` has those of what goes at once."""
 
 from case_of_end import Case
 
-SIZE, FRAGMENT = 576, 544          # of a packet, and of a fragment that fills one: a packet's window counts 564
+SIZE, FRAGMENT = 576, 544          # of a packet, and of a fragment that fills one: its chunk has 560 bytes, and a packet's window counts 564
 CONTROL = 'congestion-control'
 
 
@@ -16,7 +16,7 @@ def full(name, count=10, **others):
 
 
 def wide(name):
-    """Two fragments to a packet; after six round trips the window is 5,376 bytes, and 22 fragments are out behind TSN 1011.
+    """Two fragments to a packet; after six round trips the window is 5,568 bytes, and 22 fragments are out behind TSN 1011.
     What comes then is an alternative, so that the packets before aren't shown."""
     made = made_of(name, fragment=260).send(60 * 260).build(5)
     for turn in range(6):
@@ -36,8 +36,10 @@ def first_windows():
     made = made_of('a window is full: what waits is past its lifetime meanwhile', mode='data-pr').send(5 * FRAGMENT).build(5)
     yield made.send(4, '500').build().line('status').at(500).build().line('status').look()
     yield full('abandoned fragments leave the window', mode='data-pr').send(8).build().line('abandon 1').line('path').build().build()
-    made = made_of('small fragments in small packets: the window counts their bytes of data', fragment=4, mode='data-pr').send(4000)
-    yield made.build(21).line('path').build().at(1100).line('path').build().build().sack(1027).build(6).line('path').build()
+    for mode, count in (('data-pr', 28), ('idata-pr', 23)):
+        made = made_of('small fragments in small packets: the window counts whole chunks, %s' % mode, fragment=4, mode=mode).send(4000)
+        made.build(4).line('path').build().line('path').build().at(1100).line('path').build().build().sack(999 + count).build(2).line('path').build()
+        yield made.sack(999 + 2 * count).line('path').build(2).build()
     made = full('after a SACK four packets\' bytes go at once, and the packet that goes past them, though the window is larger').sack(1004).line('path').build(5).line('path').build()
     yield made.sack(1005).line('path').build().build()
     yield made_of('both options may be given', options='fast-retransmit ' + CONTROL).look()
@@ -64,7 +66,7 @@ def growth():
     for tsn in range(1005, 1010):
         made.sack(tsn).line('path').build()
     yield made.line('path')
-    made = made_of('congestion avoidance: a window that isn\'t full doesn\'t grow, and what was acknowledged counts up to a window', rwnd=2000)
+    made = made_of('congestion avoidance: a window grows if it was full as the last packet went, and more waits', rwnd=2000)
     made.send(20 * FRAGMENT).build(3).sack(999).build(2)
     for tsn in (1000, 1001, 1002):
         made.sack(tsn).build()
@@ -96,7 +98,7 @@ def losses():
     made.build().build().line('path').sack(1011, (2, 5)).line('path').build()
     made.sack(1011, (2, 14)).line('path').build().line('path')
     yield made
-    made = wide('a further loss in Fast Recovery cuts nothing, and goes when the window lets it').sack(1011, (2, 2)).sack(1011, (2, 3))
+    made = wide('a further loss in Fast Recovery cuts nothing, and goes at once').sack(1011, (2, 2)).sack(1011, (2, 3))
     made.sack(1011, (2, 4)).build().line('path').sack(1011, (2, 4), (6, 6)).sack(1011, (2, 4), (6, 7)).build().sack(1011, (2, 4), (6, 8)).line('path')
     made.build().line('path').sack(1015, (2, 4)).line('path').build().line('path').sack(1019).line('path')
     yield made.sack(1033).line('path')

@@ -26,6 +26,8 @@ FLAG_I, FLAG_U, FLAG_B, FLAG_E, FLAG_T = 8, 4, 2, 1, 1
 
 # Parameters (RFC 9260 section 3.3.3, RFC 5061, RFC 3758 section 3.1).
 STATE_COOKIE, UNRECOGNIZED, SUPPORTED_EXTENSIONS, FORWARD_SUPPORTED = 7, 8, 0x8008, 0xC000
+# Zero Checksum Acceptable, and its value where DTLS is below (RFC 9653 section 4).
+ZERO_CHECKSUM, OVER_DTLS = 0x8001, bytes((0, 0, 0, 1))
 # Addresses, Cookie Preservative, host name, address types: no part of this profile.
 SILENT_PARAMETERS = {5, 6, 9, 11, 12}
 
@@ -129,11 +131,11 @@ def chunk(kind, value=b'', flags=0):
     return pad(struct.pack('>BBH', kind, flags, 4 + len(value)) + value)
 
 
-def packet(source, destination, tag, chunks):
-    """Common header and chunks, with the checksum made (section 3.1)."""
+def packet(source, destination, tag, chunks, zero=False):
+    """Common header and chunks, with the checksum made (section 3.1), or with 0 in its place (RFC 9653)."""
     body = b''.join(chunks)
     start = struct.pack('>HHI', source, destination, tag)
-    return start + struct.pack('<I', crc32c(start + bytes(4) + body)) + body
+    return start + struct.pack('<I', 0 if zero else crc32c(start + bytes(4) + body)) + body
 
 
 def with_checksum(data):
@@ -281,13 +283,13 @@ def read_chunks(data, at=0):
 
 
 class Packet:
-    """A packet that was read: ports, tag, chunks (section 3.1)."""
+    """A packet that was read: ports, tag, chunks (section 3.1). `zero`: the checksum may be 0 (RFC 9653)."""
 
-    def __init__(self, data):
+    def __init__(self, data, zero=False):
         if len(data) < HEADER:
             raise Fault(SHORT)
         self.source, self.destination, self.tag = struct.unpack('>HHI', data[:8])
-        if data != with_checksum(data):
+        if data != with_checksum(data) and not (zero and data[8:12] == bytes(4)):
             raise Fault(CHECKSUM)
         if len(data) == HEADER:
             raise Fault(NO_CHUNK)
@@ -353,6 +355,7 @@ class Opening:
     def __init__(self, found):
         self.tag, self.rwnd, self.outbound, self.inbound, self.tsn = struct.unpack('>IIHHI', found.value[:16])
         self.cookie, self.extensions, self.partial, self.reports = None, None, False, []
+        self.zero_checksum = None
         for kind, whole in read_items(found.value[16:]):
             if kind == STATE_COOKIE:
                 self.cookie = whole[4:] if self.cookie is None else self.cookie
@@ -360,6 +363,8 @@ class Opening:
                 self.extensions = whole[4:] if self.extensions is None else self.extensions
             elif kind == FORWARD_SUPPORTED:
                 self.partial = True
+            elif kind == ZERO_CHECKSUM:
+                self.zero_checksum = whole[4:] if self.zero_checksum is None else self.zero_checksum
             elif kind != UNRECOGNIZED and kind not in SILENT_PARAMETERS:
                 stop, report = unknown_rule(kind >> 14)
                 if report:
@@ -386,7 +391,7 @@ FORM, MAC, PORTS, TAG, STALE = 1, 2, 3, 4, 5
 COOKIE_LIFE = 60_000
 COOKIE_LAYOUT = '>QHHIIIIIHHB3s'
 # Its options.
-PARTIAL, INTERLEAVE, RESET = 1, 2, 4
+PARTIAL, INTERLEAVE, RESET, ZERO = 1, 2, 4, 8
 
 
 class Cookie:
@@ -407,7 +412,7 @@ class Cookie:
 
 def open_cookie(key, data, now, ports, tag):
     """The cookie, its fault (0 for none) and its staleness in microseconds, in the order of 5.1.5."""
-    if len(data) != 72 or data[36] > PARTIAL | INTERLEAVE | RESET or data[37:40] != bytes(3):
+    if len(data) != 72 or data[36] > PARTIAL | INTERLEAVE | RESET | ZERO or data[37:40] != bytes(3):
         return None, FORM, 0
     if hmac.new(key, data[:40], hashlib.sha256).digest() != data[40:]:
         return None, MAC, 0

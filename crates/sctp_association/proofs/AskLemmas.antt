@@ -3,7 +3,7 @@ use Rattle.std.proofs.Common.{◌≡◌, ◌∙◌, ℕ, Bool, true, false, ◌&
 use Rattle.std.specs.Prelude.{cond, filter, take, min, nat_lt, is_some, OnOk}
 use Rattle.std.proofs.lemmas.Bool.{false≢true, and_parts}
 use Rattle.sctp_model.specs.wire.Chunk.{ChunkMeaning}
-use Rattle.sctp_model.specs.sender.SenderView.{SenderView, fresh_sender}
+use Rattle.sctp_model.specs.sender.SenderView.{SendLimits, SenderView, fresh_sender}
 use Rattle.sctp_model.specs.numbers.Limits.{STREAM_LIMIT, REQUEST_LIMIT, RESETS_AT_ONCE}
 use Rattle.sctp_model.specs.sender.Outgoing.{is_resetting}
 use Rattle.sctp_model.specs.sender.Words.{count_up}
@@ -11,17 +11,15 @@ use Rattle.sctp_model.specs.sender.Resetting.{is_still_on, ready, has_stream, ma
 use Rattle.sctp_send.specs.ResetAnswers.{resetting_streams}
 use Rattle.sctp_model.specs.receiver.ReceiverView.{ReceiverView, fresh_receiver}
 use Rattle.sctp_model.specs.receiver.ResetTaken.{with_answers}
-use Rattle.sctp_model.specs.end.EndView.{EndView, Phase, Idle, Listening, Calling, Echoing, Open, Over, has_association, Timer, unused_timer, Alarm, InitAlarm, CookieAlarm, DataAlarm, ShutdownAlarm, AckAlarm, ResetAlarm}
+use Rattle.sctp_model.specs.end.EndView.{EndView, Phase, Idle, Listening, Calling, Echoing, Open, Over, has_association, Timer, unused_timer, Alarm, InitAlarm, CookieAlarm, DataAlarm, ShutdownAlarm, AckAlarm, ResetAlarm, BeatAlarm, GuardAlarm}
 use Rattle.sctp_model.specs.end.Clock.{is_home, replaced}
 use Rattle.sctp_model.specs.end.Building.{Puts, open_slots, Builds, Sleeps, Waits, Calls, Echoes, EndsFull, Fills, filled_behind, fragments}
 use Rattle.sctp_model.specs.end.Reconfiguring.{asking_now, asking}
-use Rattle.sctp_model.specs.end.Wearing.{missed_below}
-use Rattle.sctp_send.specs.FillAnswers.{sendings_of}
-use Rattle.sctp_send.specs.declared.fill.sendings.Sendings.{Sendings}
+use Rattle.sctp_association.specs.declared.build.sendings.Sendings.{Sendings}
 use Rattle.sctp_recv.specs.Resets.{response_of}
 use Rattle.sctp_recv.specs.declared.restart.ResetResponse.{ResetResponse}
 use Rattle.sctp_association.specs.Asks.{asks}
-use Rattle.sctp_association.specs.Sends.{Sends, SendsNone, SendsBehind}
+use Rattle.sctp_association.specs.Sends.{sendings_by, Sends, SendsNone, SendsBehind}
 use Rattle.sctp_association.specs.PlainPacket.{IsCalm}
 use Rattle.sctp_association.specs.BuildAnswers.{BuildAnswer}
 use Rattle.sctp_association.specs.declared.build.Built.{Built}
@@ -99,7 +97,7 @@ module _ (e : EndView) (on : true ≡ asks e) where
   sends_asked : (xs : List ChunkMeaning) (x : Sendings) → Sends (asking_now true e) xs x → Sends e xs x
   sends_asked _ _ (SendsNone zs control) = SendsNone zs control
   sends_asked _ _ (SendsBehind zs control) =
-      subst (λ (y : EndView). Sends e (zs ++ fragments y zs) (sendings_of (missed_below e.pace) (filled_behind y zs).wishes)) (sym asked_so) (SendsBehind zs control)
+      subst (λ (y : EndView). Sends e (zs ++ fragments y zs) (sendings_by e.pace (filled_behind y zs).wishes)) (sym asked_so) (SendsBehind zs control)
 
   answers_asked : (r : Option Built) (m : Machine) → BuildAnswer (asking_now true e) r m → BuildAnswer e r m
   answers_asked None m a = (a.0, builds_asked [] a.0 a.1, a.2)
@@ -147,24 +145,23 @@ pub may_then : (e : EndView) → true ≡ asks e → may_ask e.sender ≡ true
 may_then e on = (and_parts (is_home ResetAlarm e.phase) (may_ask e.sender) (and_parts e.terms.reset (is_home ResetAlarm e.phase && may_ask e.sender) (sym on)).1).1
 
 -- a sender that was never used may not
-pub never_asks : (s : SenderView) (f : ℕ) → s ≡ fresh_sender 0 0 f 0 false → (if may_ask s then asked s else s) ≡ s
-never_asks s f is = ap (λ (x : SenderView). if may_ask x then asked x else s) is
+pub never_asks : (s : SenderView) (f : ℕ) (l : SendLimits) → s ≡ fresh_sender 0 0 f 0 false l → (if may_ask s then asked s else s) ≡ s
+never_asks s f l is = ap (λ (x : SenderView). if may_ask x then asked x else s) is
 
-pub never_may : (s : SenderView) (f : ℕ) → s ≡ fresh_sender 0 0 f 0 false → may_ask s ≡ false
-never_may s f is = ap (λ (x : SenderView). may_ask x) is
+pub never_may : (s : SenderView) (f : ℕ) (l : SendLimits) → s ≡ fresh_sender 0 0 f 0 false l → may_ask s ≡ false
+never_may s f l is = ap (λ (x : SenderView). may_ask x) is
 
 -- and none of its requests waits
-pub unasked_fresh : (s : SenderView) (f : ℕ) → asked s ≡ fresh_sender 0 0 f 0 false → ⊥
-unasked_fresh s f is = false≢true (sym (ap (λ (x : SenderView). is_some x.resets.pending) is))
+pub unasked_fresh : (s : SenderView) (f : ℕ) (l : SendLimits) → asked s ≡ fresh_sender 0 0 f 0 false l → ⊥
+unasked_fresh s f l is = false≢true (sym (ap (λ (x : SenderView). is_some x.resets.pending) is))
 
 -- ---- the timer of a request
 
 -- that of a new one is put in its place
-pub put_new : (n f g : Alarm → Timer) (t : Timer) (w u : ℕ) → n ≡ replaced ResetAlarm t f → t ≡ record unused_timer { wait = w } → w ≡ u → f ≡ g
-    → n ≡ replaced ResetAlarm (record unused_timer { wait = u }) g
+pub put_new : (n f g : Alarm → Timer) (t : Timer) (w u : ℕ) → n ≡ replaced ResetAlarm t f → t ≡ unused_timer w → w ≡ u → f ≡ g → n ≡ replaced ResetAlarm (unused_timer u) g
 put_new n f g t w u is made waits same =
-    is ∙ ap (λ (x : Timer). replaced ResetAlarm x f) (made ∙ ap (λ (j : ℕ). record unused_timer { wait = j }) waits)
-    ∙ ap (λ (h : Alarm → Timer). replaced ResetAlarm (record unused_timer { wait = u }) h) same
+    is ∙ ap (λ (x : Timer). replaced ResetAlarm x f) (made ∙ ap unused_timer waits)
+    ∙ ap (λ (h : Alarm → Timer). replaced ResetAlarm (unused_timer u) h) same
 
 -- the one that was there before is put back
 again_at : (t x : Timer) (g : Alarm → Timer) → t ≡ g ResetAlarm → (a : Alarm) → replaced ResetAlarm t (replaced ResetAlarm x g) a ≡ g a
@@ -174,6 +171,8 @@ again_at t x g at DataAlarm = refl
 again_at t x g at ShutdownAlarm = refl
 again_at t x g at AckAlarm = refl
 again_at t x g at ResetAlarm = at
+again_at t x g at BeatAlarm = refl
+again_at t x g at GuardAlarm = refl
 
 pub put_again : (n f g : Alarm → Timer) (t x : Timer) → n ≡ replaced ResetAlarm t f → f ≡ replaced ResetAlarm x g → t ≡ g ResetAlarm → n ≡ g
 put_again n f g t x is was at = is ∙ ap (λ (h : Alarm → Timer). replaced ResetAlarm t h) was ∙ (λ i a. again_at t x g at a i)
@@ -189,8 +188,8 @@ stayed (Ok x) f p = tt
 stayed (Err why) f p = f p
 
 -- a receiver that nothing came to has no responses
-pub answers_fresh : (r : ReceiverView) (b : ℕ) → r ≡ fresh_receiver 0 0 b → with_answers r [] ≡ r
-answers_fresh r b is = ap (λ (x : ReceiverView). with_answers x []) is ∙ sym is
+pub answers_fresh : (r : ReceiverView) (b n : ℕ) → r ≡ fresh_receiver 0 0 b n → with_answers r [] ≡ r
+answers_fresh r b n is = ap (λ (x : ReceiverView). with_answers x []) is ∙ sym is
 
 -- the calm of an end without resets
 pub calm_unagreed : (e : EndView) → e.terms.reset ≡ false → (e.terms.reset ≡ false → e.receiver.resets.answers ≡ []) → IsCalm e

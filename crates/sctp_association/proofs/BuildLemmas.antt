@@ -1,5 +1,5 @@
 -- `build`: a packet that is begun empty, filled by the slots that are due and then with user data, is the specification's next packet, and leaves its view.
-use Rattle.std.proofs.Common.{◌≡◌, ◌∙◌, ℕ, ◌≤◌, Bool, true, false, not, List, [], ◌∷◌, ◌++◌, map, Option, Some, None, Result, Ok, Err, IfOk, OnErr, IfSome, MatchOption, length, refl, ap, sym, subst, arith}
+use Rattle.std.proofs.Common.{◌≡◌, ◌∙◌, ℕ, ◌≤◌, Bool, true, false, not, List, [], ◌∷◌, ◌++◌, map, Option, Some, None, option_map, Result, Ok, Err, IfOk, OnErr, IfSome, MatchOption, length, refl, ap, sym, subst, arith}
 use Rattle.std.specs.Prelude.{unwrap_or, OnOk}
 use Rattle.std.proofs.Math.Seq.{drop-length}
 use Rattle.std.specs.declared.vec.Vec.{Vec}
@@ -13,7 +13,7 @@ use Rattle.sctp_model.specs.receiver.SackMade.{sack_sent}
 use Rattle.sctp_model.specs.end.EndView as model
 use Rattle.sctp_model.specs.end.EndView.{EndView, Configuration, Draw, Alarm, InitAlarm, Timer, has_association, format_of, format_for}
 use Rattle.sctp_model.specs.end.Clock.{started}
-use Rattle.sctp_model.specs.end.Pacing.{Pace}
+use Rattle.sctp_model.specs.end.Pacing.{Pace, sent_pace}
 use Rattle.sctp_model.specs.end.Reconfiguring.{asking}
 use Rattle.sctp_model.specs.end.Closing.{with_due}
 use Rattle.sctp_model.specs.end.Opening.{own_init}
@@ -23,15 +23,17 @@ use Rattle.sctp_model.specs.end.Building.{packet_of as end_packet}
 use Rattle.sctp_packet.specs.Draft.{Draft, packet_of, after_try, with_chunks}
 use Rattle.sctp_packet.specs.PacketBytes.{WritesPacket}
 use Rattle.sctp_values.specs.declared.ticket.Ticket.{Ticket}
-use Rattle.sctp_send.specs.declared.fill.Filled.{Filled}
+use Rattle.sctp_association.specs.declared.build.sendings.Filled.{Filled}
+use Rattle.sctp_congestion.specs.PaceStands.{PacesStand}
+use Rattle.sctp_congestion.specs.declared.pacing.Pacing.{Pacing}
 use Rattle.sctp_association.specs.Asks.{asks}
 use Rattle.sctp_association.specs.StartsMean.{starts_at, with_start}
 use Rattle.sctp_association.specs.PhaseMeans.{phase_unjoined, phase_of}
 use Rattle.sctp_association.specs.TrafficStands.{TrafficStands}
 use Rattle.sctp_association.specs.MachineStands.{KeepsMachine, MachineStands}
-use Rattle.sctp_association.specs.Drafted.{drafted, IsOf, IsOwn, IsEmpty, PutsAt, IsPacked}
+use Rattle.sctp_association.specs.Drafted.{drafted, IsOf, IsOwn, IsEmpty, PutsAt, IsPacked, IsWhole}
 use Rattle.sctp_association.specs.Sends.{Sends, FillsNone}
-use Rattle.sctp_association.specs.FillsBehind.{FillsBehind}
+use Rattle.sctp_association.specs.FillsBehind.{timers_behind, FillsBehind}
 use Rattle.sctp_association.specs.BuildAnswers.{BuildAnswer}
 use Rattle.sctp_association.specs.declared.state.life.Unjoined.{Unjoined}
 use Rattle.sctp_association.specs.declared.state.life.Association.{Association}
@@ -43,8 +45,9 @@ use Rattle.sctp_association.specs.declared.build.packing.Marks.{Marks}
 use Rattle.sctp_association.specs.declared.build.packing.Packing.{Packing}
 use Rattle.sctp_association.specs.declared.build.Built.{Built}
 use Rattle.sctp_association.specs.declared.machine.Machine.{Machine}
-use Rattle.sctp_association.proofs.MachineLemmas.{with_traffic, with_pace}
+use Rattle.sctp_association.proofs.MachineLemmas.{joined, phase_joined}
 use Rattle.sctp_association.proofs.PutLemmas.{started_left}
+use Rattle.sctp_association.proofs.OptionLemmas.{unbeating_after}
 use Rattle.sctp_association.proofs.AskLemmas.{unasked}
 use Rattle.sctp_association.proofs.SendsLemmas.{one_control, puts_from_none, sends_none, sends_nothing, sends_behind}
 
@@ -102,7 +105,7 @@ calls_packet e c d old new s put filled configured phase empty due is after star
     sym (ap (λ (x : EndView). started InitAlarm (with_due (record x.due { init = false }) x)) empty.same) ∙ started_left InitAlarm (record m { init = false }) e s starts in
     let one : IsPacked e e.sender e.pace (record { writer = with_chunks old.writer (own_init c d ∷ []); marks = n }) filled = record {
       builds = subst (λ (zs : List ChunkMeaning). Builds e zs (drafted n e)) chunks (subst (λ (y : EndView). Builds e (own_init e.configuration d ∷ []) y) leaves (Calls d phase calls));
-      packet = own_of e _ (record { limit = empty.packet.limit; source = empty.packet.source; destination = empty.packet.destination; tag = empty.packet.tag; sack = empty.packet.sack });
+      packet = own_of e _ (record { options = empty.packet.options; limit = empty.packet.limit; source = empty.packet.source; destination = empty.packet.destination; tag = empty.packet.tag; sack = empty.packet.sack });
       tickets_are = none_numbered filled.tickets e.sender none.tickets;
       sendings = subst (λ (zs : List ChunkMeaning). Sends e zs filled.sendings) chunks (sends_none e (own_init e.configuration d ∷ []) filled (one_control _ refl) none);
     } in
@@ -139,15 +142,18 @@ full_packet e t g old new room filled phase off empty is puts none =
     }
 
 filled_packet : (e : EndView) (t : model.Tags) (g : model.Stage) (old mid new : Packing) (traffic : Traffic) (o : Option Pace) (filled : Filled) → e.phase ≡ model.Open t g → asks e ≡ false → IsEmpty e old
-    → PutsAt open_slots e old mid true → FillsBehind e mid new traffic filled → o ≡ (sent (drafted mid.marks e) mid.writer.chunks).pace
+    → PutsAt open_slots e old mid true → FillsBehind e.pace e mid new traffic filled → o ≡ (sent (drafted mid.marks e) mid.writer.chunks).pace
     → IsPacked e (filled_behind (drafted mid.marks e) mid.writer.chunks).view o new filled
 filled_packet e t g old mid new traffic o filled phase off empty puts fills paced =
     let x = drafted mid.marks e in
     let zs = mid.writer.chunks in
     let v = (filled_behind x zs).view in
     let built = Fills t g zs x phase (from_unasked e old zs false x off empty puts.puts) in
+    let ws = (filled_behind x zs).wishes in
+    let went : EndView = record x { timers = timers_behind x zs; sender = v; pace = (sent x zs).pace } in
     let leaves : sent x zs ≡ record (drafted new.marks e) { sender = v; pace = o } =
-    ap (λ (q : Option Pace). record (sent x zs) { pace = q }) (sym paced)
+    unbeating_after ws went empty.packet.options
+    ∙ ap (λ (q : Option Pace). record went { pace = q }) (sym paced)
     ∙ sym (ap (λ (m : Marks). record (drafted m e) { sender = v; pace = o }) fills.marks ∙ ap (λ (f : Alarm → Timer). record x { sender = v; pace = o; timers = f }) fills.timers) in
     record {
       builds = subst (λ (cs : List ChunkMeaning). Builds e cs (record (drafted new.marks e) { sender = v; pace = o })) (sym fills.chunks) (subst (λ (y : EndView). Builds e (zs ++ fragments x zs) y) leaves built);
@@ -156,12 +162,18 @@ filled_packet e t g old mid new traffic o filled phase off empty puts fills pace
       sendings = sends_behind e zs new.writer.chunks filled.sendings (unasked e off) (puts_from_none _ _ _ _ _ (from_unasked e old zs false x off empty puts.puts)) fills.chunks fills.sendings_are;
     }
 
-pub fills_packet : {E : Type 0} (r : Result Filled E) (e : EndView) (t : model.Tags) (g : model.Stage) (old mid new : Packing) (room : Bool) (traffic : Traffic) (o : Option Pace)
-    → e.phase ≡ model.Open t g → asks e ≡ false → IsEmpty e old → room ≡ true → PutsAt open_slots e old mid room → IfOk r (λ filled. FillsBehind e mid new traffic filled)
-    → OnOk r (o ≡ (sent (drafted mid.marks e) mid.writer.chunks).pace) → IfOk r (λ filled. (s : SenderView) × IsPacked e s o new filled × TrafficStands traffic (format_of e) s e.receiver)
-fills_packet (Ok filled) e t g old mid new room traffic o phase off empty is puts fills paced =
-    (_, filled_packet e t g old mid new traffic o filled phase off empty (subst (PutsAt open_slots e old mid) is puts) fills paced, fills.traffic_stands)
-fills_packet (Err failed) e t g old mid new room traffic o phase off empty is puts fills paced = fills
+pub fills_packet : {E : Type 0} (r : Result Filled E) (e : EndView) (t : model.Tags) (g : model.Stage) (old mid new : Packing) (room : Bool) (traffic : Traffic) (q : Option Pacing)
+    → e.phase ≡ model.Open t g → asks e ≡ false → IsEmpty e old → room ≡ true → PutsAt open_slots e old mid room → IfOk r (λ filled. FillsBehind e.pace e mid new traffic filled)
+    → OnOk r (PacesStand (format_of e) (filled_behind (drafted mid.marks e) mid.writer.chunks).view.cum q (sent (drafted mid.marks e) mid.writer.chunks).pace) → IfOk r (IsWhole e traffic q new)
+fills_packet (Ok filled) e t g old mid new room traffic q phase off empty is puts fills paced = record {
+  sender = (filled_behind (drafted mid.marks e) mid.writer.chunks).view;
+  after = (sent (drafted mid.marks e) mid.writer.chunks).pace;
+  packed = filled_packet e t g old mid new traffic (sent (drafted mid.marks e) mid.writer.chunks).pace filled phase off empty (subst (PutsAt open_slots e old mid) is puts) fills refl;
+  traffic_stands = fills.traffic_stands;
+  pace_stands = paced;
+  unpaced = λ none. ap (λ (o : Option Pace). option_map (sent_pace e.moment e.sender (filled_behind (drafted mid.marks e) mid.writer.chunks).view (filled_behind (drafted mid.marks e) mid.writer.chunks).wishes) o) none;
+}
+fills_packet (Err failed) e t g old mid new room traffic q phase off empty is puts fills paced = fills
 
 -- what is so anyway is so where there is a result
 pub on_ok : {A E : Type 0} (P : Type 0) (r : Result A E) → P → OnOk r P
@@ -195,11 +207,11 @@ answered e s o (Some b) m p filled packed writes size within same counts stands 
 -- ---- what stands for the end meanwhile
 
 pub with_moment : (m : Machine) (v : EndView) (n : ℕ) → KeepsMachine m v → KeepsMachine (record m { moment = n }) (record v { moment = n })
-with_moment m v n k = record { configuration = k.configuration; role = k.role; clock = refl; due = k.due; timers = k.timers; delayed = k.delayed; phase = k.phase; life = k.life; room = k.room; pace = k.pace; unpaced = k.unpaced }
+with_moment m v n k = record { configuration = k.configuration; role = k.role; clock = refl; due = k.due; timers = k.timers; delayed = k.delayed; phase = k.phase; life = k.life; room = k.room; pace = k.pace; unpaced = k.unpaced; options = k.options; beats = k.beats }
 
 -- a receiver that nothing came to has no duplicates to tell
-pub told_fresh : (r : ReceiverView) (b : ℕ) → r ≡ fresh_receiver 0 0 b → sack_sent r ≡ r
-told_fresh r b is = ap sack_sent is ∙ sym is
+pub told_fresh : (r : ReceiverView) (b n : ℕ) → r ≡ fresh_receiver 0 0 b n → sack_sent r ≡ r
+told_fresh r b n is = ap sack_sent is ∙ sym is
 
 pub phase_at : (m : Machine) (x : Unjoined) (v : EndView) → m.life ≡ life.Unjoined x → KeepsMachine m v → v.phase ≡ phase_unjoined x
 phase_at m x v is k = sym k.phase ∙ ap phase_of is
@@ -207,48 +219,57 @@ phase_at m x v is k = sym k.phase ∙ ap phase_of is
 pub stays_unjoined : (m : Machine) (x : Unjoined) (v : EndView) → m.life ≡ life.Unjoined x → KeepsMachine m v → KeepsMachine (record m { life = life.Unjoined x }) v
 stays_unjoined m x v is k = subst (λ (h : Life). KeepsMachine (record m { life = h }) v) is k
 
+-- a packet that leaves sender and pace as they were
+pub whole_so : (e : EndView) (p : Packing) (filled : Filled) (traffic : Traffic) (q : Option Pacing) → IsPacked e e.sender e.pace p filled
+    → TrafficStands traffic (format_of e) e.sender e.receiver → PacesStand (format_of e) e.sender.cum q e.pace → IsWhole e traffic q p filled
+whole_so e p filled traffic q packed stands paces = record { sender = e.sender; after = e.pace; packed = packed; traffic_stands = stands; pace_stands = paces; unpaced = λ none. none }
+
 -- where a call may run out of memory: the end as it was
-pub with_end : {E : Type 0} (r : Result Filled E) (e v : EndView) (p : Packing) (m : Machine) → IfOk r (λ filled. IsPacked e e.sender e.pace p filled)
-    → KeepsMachine m (record v { sender = e.sender; pace = e.pace }) → m.pace ≡ e.pace
-    → IfOk r (λ filled. (s : SenderView) × IsPacked e s m.pace p filled × KeepsMachine m (record v { sender = s; pace = m.pace }))
-with_end (Ok filled) e v p m packed stands same = (
-  e.sender,
-  subst (λ (o : Option Pace). IsPacked e e.sender o p filled) (sym same) packed,
-  subst (λ (o : Option Pace). KeepsMachine m (record v { sender = e.sender; pace = o })) (sym same) stands,
-)
-with_end (Err failed) e v p m packed stands same = packed
+pub with_end : {E : Type 0} (r : Result Filled E) (e v : EndView) (p : Packing) (m : Machine) → IfOk r (λ filled. IsPacked e e.sender e.pace p filled) → KeepsMachine m (record v { sender = e.sender; pace = e.pace })
+    → IfOk r (λ filled. (s : SenderView) × (o : Option Pace) × IsPacked e s o p filled × KeepsMachine m (record v { sender = s; pace = o }))
+with_end (Ok filled) e v p m packed stands = (e.sender, e.pace, packed, stands)
+with_end (Err failed) e v p m packed stands = packed
 
 -- the traffic as it was
-pub with_traffic_kept : {E : Type 0} (r : Result Filled E) (e : EndView) (p : Packing) (traffic : Traffic) → IfOk r (λ filled. IsPacked e e.sender e.pace p filled)
-    → TrafficStands traffic (format_of e) e.sender e.receiver → (o : Option Pace) → o ≡ e.pace
-    → IfOk r (λ filled. (s : SenderView) × IsPacked e s o p filled × TrafficStands traffic (format_of e) s e.receiver)
-with_traffic_kept (Ok filled) e p traffic packed stands o same = (e.sender, subst (λ (q : Option Pace). IsPacked e e.sender q p filled) (sym same) packed, stands)
-with_traffic_kept (Err failed) e p traffic packed stands o same = packed
+pub with_traffic_kept : {E : Type 0} (r : Result Filled E) (e : EndView) (p : Packing) (traffic : Traffic) (q : Option Pacing) → IfOk r (λ filled. IsPacked e e.sender e.pace p filled)
+    → TrafficStands traffic (format_of e) e.sender e.receiver → PacesStand (format_of e) e.sender.cum q e.pace → IfOk r (IsWhole e traffic q p)
+with_traffic_kept (Ok filled) e p traffic q packed stands paces = whole_so e p filled traffic q packed stands paces
+with_traffic_kept (Err failed) e p traffic q packed stands paces = packed
 
--- the end with its sender gone on
-pub on_traffic : (m : Machine) (a b : Association) (v : EndView) (x : SenderView) → m.life ≡ life.Joined a → KeepsMachine m v → b ≡ record a { traffic = b.traffic }
-    → TrafficStands b.traffic (format_for v.terms.interleave) x v.receiver → KeepsMachine (record m { life = life.Joined b }) (record v { sender = x })
-on_traffic m a b v x is k kept stands =
-    subst (λ (h : Association). KeepsMachine (record m { life = life.Joined h }) (record v { sender = x })) (sym kept) (with_traffic m a b.traffic v x v.receiver is k stands refl refl)
+-- the end with its sender and its pace gone on
+with_both : (m : Machine) (a b : Association) (v : EndView) (x : SenderView) (q : Option Pacing) (o : Option Pace) → m.life ≡ life.Joined a → KeepsMachine m v
+    → TrafficStands b.traffic (format_for v.terms.interleave) x v.receiver → PacesStand (format_for v.terms.interleave) x.cum q o → (v.pace ≡ None → o ≡ None)
+    → KeepsMachine (record m { life = life.Joined (record a { traffic = b.traffic }); pace = q }) (record v { sender = x; pace = o })
+with_both m a b v x q o is k stands paces none = record {
+  configuration = k.configuration;
+  role = k.role;
+  clock = k.clock;
+  due = k.due;
+  timers = k.timers;
+  delayed = k.delayed;
+  phase = phase_joined m a v is k;
+  life = record { terms = (joined m a v is k).terms; traffic = stands; buffer = (joined m a v is k).buffer; answers = (joined m a v is k).answers };
+  room = k.room;
+  pace = paces;
+  unpaced = λ off. none (k.unpaced off);
+  options = k.options;
+  beats = k.beats;
+}
 
--- without fast retransmit it has no pace still
-unpaced_still : (m : Machine) (v : EndView) (o : Option Pace) → KeepsMachine m v → (m.pace ≡ None → o ≡ None) → v.configuration.fast_retransmit ≡ false → o ≡ None
-unpaced_still m v o k none off = none (k.pace ∙ k.unpaced off)
+pub with_traffic_and_pace : (m : Machine) (a b : Association) (v : EndView) (x : SenderView) (q : Option Pacing) (o : Option Pace) → m.life ≡ life.Joined a → KeepsMachine m v
+    → b ≡ record a { traffic = b.traffic } → TrafficStands b.traffic (format_for v.terms.interleave) x v.receiver → PacesStand (format_for v.terms.interleave) x.cum q o → (v.pace ≡ None → o ≡ None)
+    → KeepsMachine (record m { life = life.Joined b; pace = q }) (record v { sender = x; pace = o })
+with_traffic_and_pace m a b v x q o is k kept stands paces none =
+    subst (λ (h : Association). KeepsMachine (record m { life = life.Joined h; pace = q }) (record v { sender = x; pace = o })) (sym kept) (with_both m a b v x q o is k stands paces none)
 
--- with its pace gone on, too
-pub with_traffic_and_pace : (m : Machine) (a b : Association) (v : EndView) (x : SenderView) (o : Option Pace) → m.life ≡ life.Joined a → KeepsMachine m v → b ≡ record a { traffic = b.traffic }
-    → (m.pace ≡ None → o ≡ None) → TrafficStands b.traffic (format_for v.terms.interleave) x v.receiver → KeepsMachine (record m { life = life.Joined b; pace = o }) (record v { sender = x; pace = o })
-with_traffic_and_pace m a b v x o is k kept none stands = with_pace _ (record v { sender = x }) o (on_traffic m a b v x is k kept stands) (unpaced_still m v o k none)
+pub with_sender : {E : Type 0} (r : Result Filled E) (v : EndView) (n : ℕ) (p : Packing) (m : Machine) (a b : Association) (q : Option Pacing) → m.life ≡ life.Joined a → KeepsMachine m v
+    → b ≡ record a { traffic = b.traffic } → IfOk r (IsWhole (record v { moment = n }) b.traffic q p)
+    → IfOk r (λ filled. (x : SenderView) × (o : Option Pace) × IsPacked (record v { moment = n }) x o p filled × KeepsMachine (record m { life = life.Joined b; pace = q }) (record v { sender = x; pace = o }))
+with_sender (Ok filled) v n p m a b q is k kept w = (w.sender, w.after, w.packed, with_traffic_and_pace m a b v w.sender q w.after is k kept w.traffic_stands w.pace_stands w.unpaced)
+with_sender (Err failed) v n p m a b q is k kept w = w
 
-pub with_sender : {E : Type 0} (r : Result Filled E) (e v : EndView) (p : Packing) (m : Machine) (a b : Association) (o : Option Pace) → m.life ≡ life.Joined a → KeepsMachine m v
-    → b ≡ record a { traffic = b.traffic } → (m.pace ≡ None → o ≡ None)
-    → IfOk r (λ filled. (x : SenderView) × IsPacked e x o p filled × TrafficStands b.traffic (format_for v.terms.interleave) x v.receiver)
-    → IfOk r (λ filled. (x : SenderView) × IsPacked e x o p filled × KeepsMachine (record m { life = life.Joined b; pace = o }) (record v { sender = x; pace = o }))
-with_sender (Ok filled) e v p m a b o is k kept none packed = (packed.0, packed.1, with_traffic_and_pace m a b v packed.0 o is k kept none packed.2)
-with_sender (Err failed) e v p m a b o is k kept none packed = packed
-
-pub still_stands : {A E : Type 0} (r : Result A E) (v : EndView) (m : Machine) (a b : Association) (o : Option Pace) → m.life ≡ life.Joined a → KeepsMachine m v → b ≡ record a { traffic = b.traffic }
-    → OnErr r (o ≡ m.pace) → OnErr r (TrafficStands b.traffic (format_for v.terms.interleave) v.sender v.receiver) → OnErr r (KeepsMachine (record m { life = life.Joined b; pace = o }) v)
-still_stands (Ok x) v m a b o is k kept same stands = tt
-still_stands (Err failed) v m a b o is k kept same stands =
-    subst (λ (q : Option Pace). KeepsMachine (record m { life = life.Joined b; pace = q }) v) (sym same) (on_traffic m a b v v.sender is k kept stands)
+pub still_stands : {A E : Type 0} (r : Result A E) (v : EndView) (m : Machine) (a b : Association) (q : Option Pacing) → m.life ≡ life.Joined a → KeepsMachine m v → b ≡ record a { traffic = b.traffic }
+    → OnErr r (PacesStand (format_for v.terms.interleave) v.sender.cum q v.pace) → OnErr r (TrafficStands b.traffic (format_for v.terms.interleave) v.sender v.receiver)
+    → OnErr r (KeepsMachine (record m { life = life.Joined b; pace = q }) v)
+still_stands (Ok x) v m a b q is k kept paces stands = tt
+still_stands (Err failed) v m a b q is k kept paces stands = with_traffic_and_pace m a b v v.sender q v.pace is k kept stands paces (λ none. none)

@@ -3,10 +3,10 @@ use Rattle.std.proofs.Common.{◌≡◌, ◌∙◌, ℕ, ◌+◌, nat_lt, nat_le
 use Rattle.std.proofs.lemmas.Bool.{false≢true}
 use Rattle.std.proofs.lemmas.Bool.Decides.{nat_tests}
 use Rattle.std.specs.Prelude.{if◌then◌else◌, not, ◌&&◌, ◌||◌, ◌==◌, zero, suc, Some, None, unwrap_or}
-use Rattle.sctp_model.specs.numbers.Limits.{LONGEST_MESSAGE, QUEUE_LIMIT, TICKET_LIMIT, TSN_LIMIT}
+use Rattle.sctp_model.specs.numbers.Limits.{QUEUE_LIMIT, TICKET_LIMIT, TSN_LIMIT}
 use Rattle.sctp_model.specs.sender.Words.{when, first_there}
-use Rattle.sctp_model.specs.sender.SenderView.{SenderView, fresh_sender}
-use Rattle.sctp_model.specs.sender.Queueing.{NoSuchStream, Resetting, Empty, TooLong, QueueFull, Spent, refusal, promised, owed_for, cut}
+use Rattle.sctp_model.specs.sender.SenderView.{SendLimits, SenderView, fresh_sender}
+use Rattle.sctp_model.specs.sender.Queueing.{NoSuchStream, Resetting, Empty, TooLong, QueueFull, Spent, is_over, refusal, promised, owed_for, cut}
 use Rattle.sctp_model.specs.sender.Outgoing.{is_sending}
 use Rattle.sctp_model.specs.sender.Abandoning.{abandon_answer, abandon_after, Unknown, Withdrawn}
 use Rattle.sctp_model.specs.receiver.ReceiverView.{ReceiverView, fresh_receiver}
@@ -17,6 +17,7 @@ use Rattle.sctp_model.specs.end.Clock.{turned, stopped, replaced, timers_in}
 use Rattle.sctp_model.specs.end.Closing.{hears, rested}
 use Rattle.sctp_model.specs.end.Moments.{after_abandoning}
 use Rattle.sctp_model.specs.end.UserCalls.{is_established, is_open, ConnectAnswer, Called, NotIdle, connect_answer, called, Ticket, NotOpen, send_answer, answer_for, UserTakes, shutdown_answer, NotShut, shut_in, shut, abandoned_at}
+use Rattle.sctp_terms.specs.PlainOptions.{HasPlainOptions}
 use Rattle.sctp_association.specs.TimersMean.{timers_meaning}
 use Rattle.sctp_association.specs.PhaseMeans.{phase_of, phase_in, is_idle}
 use Rattle.sctp_association.specs.DueStands.{DueStands}
@@ -30,22 +31,23 @@ use Rattle.sctp_association.specs.declared.state.life.Life.TheVariants as life
 use Rattle.sctp_association.specs.declared.state.due.Due.{Due}
 use Rattle.sctp_association.specs.declared.time.timers.Timers.{Timers}
 use Rattle.sctp_association.specs.declared.machine.Machine.{Machine}
+use Rattle.sctp_association.proofs.OptionLemmas.{unupdating}
 
 -- ---- abandon
 
 -- of a sender that was never used no message is known
-pub abandon_fresh : (s : SenderView) (f t : ℕ) → s ≡ fresh_sender 0 0 f 0 false → abandon_after s t ≡ s
-abandon_fresh s f t is = ap (λ (x : SenderView). abandon_after x t) is ∙ sym is
+pub abandon_fresh : (s : SenderView) (f : ℕ) (l : SendLimits) (t : ℕ) → s ≡ fresh_sender 0 0 f 0 false l → abandon_after s t ≡ s
+abandon_fresh s f l t is = ap (λ (x : SenderView). abandon_after x t) is ∙ sym is
 
 no_ticket : (t : ℕ) → (nat_lt 0 t && nat_le t 0) ≡ false
 no_ticket zero = refl
 no_ticket (suc t) = grind (arith, nat_tests)
 
-abandon_none : (t f : ℕ) → abandon_answer (fresh_sender 0 0 f 0 false) t ≡ Unknown
-abandon_none t f = ap (λ (b : Bool). unwrap_or (first_there (None ∷ when b Withdrawn ∷ [])) Unknown) (no_ticket t)
+abandon_none : (t f : ℕ) (l : SendLimits) → abandon_answer (fresh_sender 0 0 f 0 false l) t ≡ Unknown
+abandon_none t f l = ap (λ (b : Bool). unwrap_or (first_there (None ∷ when b Withdrawn ∷ [])) Unknown) (no_ticket t)
 
-pub unknown_fresh : (s : SenderView) (f t : ℕ) → s ≡ fresh_sender 0 0 f 0 false → Unknown ≡ abandon_answer s t
-unknown_fresh s f t is = sym (ap (λ (x : SenderView). abandon_answer x t) is ∙ abandon_none t f)
+pub unknown_fresh : (s : SenderView) (f : ℕ) (l : SendLimits) (t : ℕ) → s ≡ fresh_sender 0 0 f 0 false l → Unknown ≡ abandon_answer s t
+unknown_fresh s f l t is = sym (ap (λ (x : SenderView). abandon_answer x t) is ∙ abandon_none t f l)
 
 pub abandoned_by : (v : EndView) (t : ℕ) (b : Bool) → is_open v.phase ≡ b
     → abandoned_at v t ≡ (if b then after_abandoning v (abandon_after v.sender t) else record v { sender = abandon_after v.sender t })
@@ -130,24 +132,29 @@ called_stands m v draw d s k idle due timers = record {
   room = k.room;
   pace = k.pace;
   unpaced = k.unpaced;
+  options = k.options;
+  beats = k.beats;
 }
 
 abbrev pub stop_at : Alarm → (Alarm → Timer) → Alarm → Timer
 stop_at a f = replaced a (stopped (f a)) f
 
-called_at : (d : model.Draw) (f : Alarm → Timer) (a : Alarm)
-    → stop_at model.ResetAlarm (stop_at model.AckAlarm (stop_at model.ShutdownAlarm (stop_at model.DataAlarm (stop_at model.CookieAlarm f)))) a ≡ timers_in (model.Calling d) f a
-called_at d f model.InitAlarm = refl
-called_at d f model.CookieAlarm = refl
-called_at d f model.DataAlarm = refl
-called_at d f model.ShutdownAlarm = refl
-called_at d f model.AckAlarm = refl
-called_at d f model.ResetAlarm = refl
+called_at : (d : model.Draw) (s : Timers) (a : Alarm)
+    → stop_at model.ResetAlarm (stop_at model.AckAlarm (stop_at model.ShutdownAlarm (stop_at model.DataAlarm (stop_at model.CookieAlarm (timers_meaning s))))) a
+    ≡ timers_in (model.Calling d) (timers_meaning s) a
+called_at d s model.InitAlarm = refl
+called_at d s model.CookieAlarm = refl
+called_at d s model.DataAlarm = refl
+called_at d s model.ShutdownAlarm = refl
+called_at d s model.AckAlarm = refl
+called_at d s model.ResetAlarm = refl
+called_at d s model.BeatAlarm = refl
+called_at d s model.GuardAlarm = refl
 
-pub called_timers : (d : model.Draw) (f g h k l n : Alarm → Timer) → g ≡ stop_at model.CookieAlarm f → h ≡ stop_at model.DataAlarm g → k ≡ stop_at model.ShutdownAlarm h → l ≡ stop_at model.AckAlarm k
-    → n ≡ stop_at model.ResetAlarm l → n ≡ timers_in (model.Calling d) f
-called_timers d f g h k l n one two three four five =
-    five ∙ ap (stop_at model.ResetAlarm) (four ∙ ap (stop_at model.AckAlarm) (three ∙ ap (stop_at model.ShutdownAlarm) (two ∙ ap (stop_at model.DataAlarm) one))) ∙ (λ i a. called_at d f a i)
+pub called_timers : (d : model.Draw) (s : Timers) (g h k l n : Alarm → Timer) → g ≡ stop_at model.CookieAlarm (timers_meaning s) → h ≡ stop_at model.DataAlarm g
+    → k ≡ stop_at model.ShutdownAlarm h → l ≡ stop_at model.AckAlarm k → n ≡ stop_at model.ResetAlarm l → n ≡ timers_in (model.Calling d) (timers_meaning s)
+called_timers d s g h k l n one two three four five =
+    five ∙ ap (stop_at model.ResetAlarm) (four ∙ ap (stop_at model.AckAlarm) (three ∙ ap (stop_at model.ShutdownAlarm) (two ∙ ap (stop_at model.DataAlarm) one))) ∙ (λ i a. called_at d s a i)
 
 -- ---- send
 
@@ -156,12 +163,12 @@ zero_le n = grind (arith, nat_tests)
 
 refuses_at : (s : SenderView) (stream : ℕ) (bytes : List ℕ) → nat_le s.streams stream ≡ true → refusal s stream bytes ≡ Some NoSuchStream
 refuses_at s stream bytes w =
-    ap (λ (b : Bool). first_there (when b NoSuchStream ∷ when (not (is_sending (s.resets.sending stream))) Resetting ∷ when (length bytes == 0) Empty ∷ when (nat_lt LONGEST_MESSAGE (length bytes)) TooLong
-    ∷ when (nat_le QUEUE_LIMIT (length s.queue)) QueueFull
+    ap (λ (b : Bool). first_there (when b NoSuchStream ∷ when (not (is_sending (s.resets.sending stream))) Resetting ∷ when (length bytes == 0) Empty ∷ when (nat_lt s.limits.message (length bytes)) TooLong
+    ∷ when (nat_le QUEUE_LIMIT (length s.queue) || is_over s bytes) QueueFull
     ∷ when (nat_le TICKET_LIMIT s.tickets || nat_lt TSN_LIMIT (promised s + owed_for (length (cut s.fragment bytes)))) Spent ∷ [])) w
 
-pub refuses_fresh : (s : SenderView) (f stream : ℕ) (bytes : List ℕ) → s ≡ fresh_sender 0 0 f 0 false → refusal s stream bytes ≡ Some NoSuchStream
-refuses_fresh s f stream bytes is = refuses_at s stream bytes (ap (λ (x : SenderView). nat_le x.streams stream) is ∙ zero_le stream)
+pub refuses_fresh : (s : SenderView) (f : ℕ) (l : SendLimits) (stream : ℕ) (bytes : List ℕ) → s ≡ fresh_sender 0 0 f 0 false l → refusal s stream bytes ≡ Some NoSuchStream
+refuses_fresh s f l stream bytes is = refuses_at s stream bytes (ap (λ (x : SenderView). nat_le x.streams stream) is ∙ zero_le stream)
 
 pub hears_not : (h : model.Phase) → hears (λ g. true) h ≡ false → hears is_established h ≡ false
 hears_not model.Idle w = refl
@@ -182,5 +189,5 @@ ticket_for v c n w none is = send_by v c true w ∙ ap (answer_for v) none ∙ a
 
 -- ---- take
 
-pub takes_unjoined : (v : EndView) (f s : ℕ) → v.receiver ≡ fresh_receiver 0 0 f → UserTakes v s None v
-takes_unjoined v f s is = record { receiver = v.receiver; takes = (ap (λ (r : ReceiverView). r.waiting s) is, refl); leaves = refl }
+pub takes_unjoined : (v : EndView) (f n s : ℕ) → v.receiver ≡ fresh_receiver 0 0 f n → HasPlainOptions v.configuration → UserTakes v s None v
+takes_unjoined v f n s is options = record { receiver = v.receiver; takes = (ap (λ (r : ReceiverView). r.waiting s) is, refl); leaves = sym (unupdating v options) }

@@ -11,11 +11,11 @@ use Rattle.sctp_model.specs.end.Moments.{waited_in, waited}
 use Rattle.sctp_model.specs.end.Arriving.{Notes, HasGap, is_at_once, acknowledges, delays, kept_going, answered_in, acknowledges_in}
 
 -- nothing came to a fresh receiver
-no_gap_fresh : (b : ℕ) → HasGap (fresh_receiver 0 0 b) → ⊥
-no_gap_fresh b (c, i, reached, above, seen) = cc
+no_gap_fresh : (b n : ℕ) → HasGap (fresh_receiver 0 0 b n) → ⊥
+no_gap_fresh b n (c, i, reached, above, seen) = cc
 
-pub no_gap : (r : ReceiverView) (b : ℕ) → r ≡ fresh_receiver 0 0 b → HasGap r → ⊥
-no_gap r b is gap = no_gap_fresh b (rw is at gap)
+pub no_gap : (r : ReceiverView) (b n : ℕ) → r ≡ fresh_receiver 0 0 b n → HasGap r → ⊥
+no_gap r b n is gap = no_gap_fresh b n (rw is at gap)
 
 -- where the association isn't open nothing is acknowledged
 pub acknowledges_none : (n : Notes) (h : model.Phase) (v : EndView) → hears (λ g. true) h ≡ false → acknowledges_in n true h v ≡ v

@@ -18,11 +18,9 @@ use Rattle.sctp_model.proofs.sender.Bounds.{IsBounded, is_bounded}
 use Rattle.sctp_model.proofs.sender.FillLaws.{goes_none}
 use Rattle.sctp_model.specs.end.EndView.{EndView, Alarm, format_of}
 use Rattle.sctp_model.specs.end.Building.{room_behind, filled_behind}
-use Rattle.sctp_model.specs.end.Wearing.{missed_below}
 use Rattle.sctp_packet.specs.Draft.{Draft}
-use Rattle.sctp_send.specs.FillAnswers.{sendings_of}
-use Rattle.sctp_send.specs.declared.fill.Filled.{Filled}
-use Rattle.sctp_association.specs.Sends.{FillsNone}
+use Rattle.sctp_association.specs.declared.build.sendings.Filled.{Filled}
+use Rattle.sctp_association.specs.Sends.{FillsNone, sendings_by}
 use Rattle.sctp_association.specs.StartsMean.{starts_at, with_fragments, started_from}
 use Rattle.sctp_association.specs.TrafficStands.{TrafficStands}
 use Rattle.sctp_association.specs.Drafted.{drafted, IsOf}
@@ -114,7 +112,7 @@ nothing_fills f room v reached empty = nothing_goes room f room v (goes_none f r
 
 pub nothing_behind : (e : EndView) (m : Marks) (n : Starts) (w : Draft) (traffic : Traffic) (filled : Filled) → IsReached (format_of e) e.sender → drained e.sender ≡ true
     → TrafficStands traffic (format_of e) e.sender e.receiver → IsOf e (record { writer = w; marks = m }) → FillsNone filled → starts_at n ≡ with_fragments false (starts_at m.starts)
-    → FillsBehind e (record { writer = w; marks = m }) (record { writer = w; marks = record m { starts = n } }) traffic filled
+    → FillsBehind e.pace e (record { writer = w; marks = m }) (record { writer = w; marks = record m { starts = n } }) traffic filled
 nothing_behind e m n w traffic filled reached empty stands of none starting =
     let x = drafted m e in
     let zs = w.chunks in
@@ -127,6 +125,6 @@ nothing_behind e m n w traffic filled reached empty stands of none starting =
       timers = ap (λ (q : Alarm → Bool). started_from q e.moment e.timers) (starting ∙ sym (ap (λ (y : Fill). with_fragments (some_wish y.wishes) (starts_at m.starts)) is))
           ∙ fragments_after e m (filled_behind x zs).wishes;
       traffic_stands = subst (λ (y : Fill). TrafficStands traffic f y.view e.receiver) (sym is) stands;
-      sendings_are = none.sendings ∙ sym (ap (λ (y : Fill). sendings_of (missed_below e.pace) y.wishes) is);
+      sendings_are = none.sendings ∙ sym (ap (λ (y : Fill). sendings_by e.pace y.wishes) is);
       tickets_are = none_numbered filled.tickets e.sender none.tickets ∙ sym (ap (λ (y : Fill). newly_numbered e.sender y.view) is);
     }

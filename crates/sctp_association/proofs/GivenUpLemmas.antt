@@ -6,7 +6,7 @@ use Rattle.std.proofs.lemmas.Bool.{and_parts, and_from, or_left, or_right}
 use Rattle.std.proofs.lemmas.Bool.Decides.{nat_tests}
 use Rattle.sctp_model.specs.messages.Format.{Format, Lane, same_lane}
 use Rattle.sctp_model.specs.messages.Plan.{Message, Entry, End, Plan, entry_at}
-use Rattle.sctp_model.specs.sender.SenderView.{SenderView, fresh_sender}
+use Rattle.sctp_model.specs.sender.SenderView.{SendLimits, SenderView, fresh_sender}
 use Rattle.sctp_model.specs.sender.Words.{some_passes, count_up}
 use Rattle.sctp_model.specs.sender.Entries.{entry_lane, entry_number, entry_message, is_of_abandoned, is_wanted, is_unsettled, passes_at}
 use Rattle.sctp_model.specs.sender.Abandoning.{Name, name_at, name_of, without, is_abandoned, with_abandoned, abandon_after, is_overdue, expire_one, is_to_expire, expired, is_used_up, is_worn, is_worn_at, ticket_at, wear_one, worn}
@@ -255,12 +255,12 @@ gives_up_alone f e h = record { alone = λ t. alone t (is_data_due e); anew = λ
         limit_anew f v t h (and_parts (is_data_due e) (is_at_limit v t) rest).1
 
 -- of an endpoint before an association
-pub unused_alone : (e : EndView) (fragment : ℕ) → e.sender ≡ fresh_sender 0 0 fragment 0 false → GivesUpAlone e
-unused_alone e fragment is = record {
+pub unused_alone : (e : EndView) (fragment : ℕ) (l : SendLimits) → e.sender ≡ fresh_sender 0 0 fragment 0 false l → GivesUpAlone e
+unused_alone e fragment l is = record {
   alone = λ t given. absurd (none t (is_data_due e) (sym (ap (λ (s : SenderView). abandoned (given_up (is_data_due e) s e.moment) t) is) ∙ given));
   anew = λ t on. ap (λ (s : SenderView). abandoned s t) is;
 }
   where
-    none : (t : ℕ) (b : Bool) → abandoned (given_up b (fresh_sender 0 0 fragment 0 false) e.moment) t ≡ true → ⊥
+    none : (t : ℕ) (b : Bool) → abandoned (given_up b (fresh_sender 0 0 fragment 0 false l) e.moment) t ≡ true → ⊥
     none t true given = cc
     none t false given = cc

@@ -1,3 +1,5 @@
+pub mod CumLemmas
+pub mod OptionLemmas
 pub mod MachineLemmas
 pub mod ReconfigLemmas
 pub mod ResetLemmas
@@ -10,6 +12,8 @@ pub mod ReportLemmas
 pub mod JoinLemmas
 pub mod OpeningLemmas
 pub mod MeasureLemmas
+pub mod ProbeLemmas
+pub mod BackLemmas
 pub mod FollowLemmas
 pub mod MissedLemmas
 pub mod FillLemmas
@@ -19,6 +23,7 @@ pub mod PassedLemmas
 pub mod PutLemmas
 pub mod InitLemmas
 pub mod SameLemmas
+pub mod CountLemmas
 pub mod SendsLemmas
 pub mod AskLemmas
 pub mod RequestLemmas

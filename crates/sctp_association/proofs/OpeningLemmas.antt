@@ -60,6 +60,8 @@ established_there m a v t xs d s is k phase due timers =
       room = k.room;
       pace = k.pace;
       unpaced = k.unpaced;
+      options = k.options;
+      beats = k.beats;
     }
 
 -- ---- the seal of an end that listens

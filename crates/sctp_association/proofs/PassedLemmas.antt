@@ -1,7 +1,6 @@
 -- What CUM passed is acknowledged: none of it is in flight, is marked for repeating, or is given up. An end at rest stays as it is where nothing is given up.
 use Rattle.std.proofs.Common.{◌≡◌, ◌∙◌, ℕ, zero, suc, ◌<◌, ◌≤◌, nat_lt, Bool, true, false, refl, sym, ap, arith}
 use Rattle.std.specs.Prelude.{Option, None, Some, nat_le, not, ◌&&◌, ◌||◌, ◌==◌, fold, length, if◌then◌else◌}
-use Rattle.std.proofs.lemmas.Bool.{and_parts}
 use Rattle.std.proofs.lemmas.Bool.Decides.{nat_tests}
 use Rattle.sctp_model.specs.messages.Format.{Format}
 use Rattle.sctp_model.specs.messages.Plan.{Entry, entry_at}
@@ -16,7 +15,8 @@ use Rattle.sctp_model.specs.end.Clock.{stopped, with_timer, is_point_past, settl
 use Rattle.sctp_model.specs.end.Closing.{hears, rested}
 use Rattle.sctp_model.specs.end.Moments.{after_abandoning}
 use Rattle.sctp_model.specs.end.Pacing.{Pace}
-use Rattle.sctp_model.specs.end.Wearing.{missed_below, worn_since, wearing}
+use Rattle.sctp_model.specs.end.Misses.{is_missed}
+use Rattle.sctp_model.specs.end.Wearing.{worn_since, wearing}
 use Rattle.sctp_model.proofs.sender.WordLaws.{lowest_none}
 use Rattle.sctp_model.proofs.sender.Bounds.{IsBounded, is_bounded}
 use Rattle.sctp_send.specs.PaceAnswers.{first_in_flight}
@@ -66,30 +66,42 @@ off_within v test keep passed off (suc j) = by (test (suc j)) refl (entry_at v.p
 
 -- ---- what CUM passed
 
-passed_by : (v : SenderView) (from below : ℕ) → IsBounded v → below ≤ v.cum → IsPassed v (λ i. nat_le from i && nat_lt i below)
-passed_by v from below b le i some is = b.covered i some (low (and_parts (nat_le from i) (nat_lt i below) is).1)
+on_off : true ≡ false → ⊥
+on_off e = cc
+
+-- so is one that none above CUM passes
+passed_by : (v : SenderView) (test : ℕ → Bool) → IsBounded v → ((i : ℕ) → v.cum < i → test i ≡ false) → IsPassed v test
+passed_by v test b off i some is = b.covered i some (low (nat_lt v.cum i) refl)
   where
-    low : nat_lt i below ≡ true → i ≤ v.cum
-    low lt = grind (arith, nat_tests)
+    on_off : true ≡ false → ⊥
+    on_off e = cc
+
+    low : (x : Bool) → nat_lt v.cum i ≡ x → i ≤ v.cum
+    low true above = let over : v.cum < i = grind (arith, nat_tests) in absurd (on_off (sym is ∙ off i over))
+    low false above = grind (arith, nat_tests)
+
+-- none above CUM is among those of a range that ends up to it
+pub none_above : (cum from below : ℕ) (test says : ℕ → Bool) → below ≤ cum → ((i : ℕ) → cum < i → test i ≡ (nat_le from i && (nat_lt i below && says i))) → (i : ℕ) → cum < i → test i ≡ false
+none_above cum from below test says low is i above = is i above ∙ (ap (λ (b : Bool). nat_le from i && (b && says i)) past ∙ and_false (nat_le from i))
+  where
+    past : nat_lt i below ≡ false
+    past = grind (arith, nat_tests)
 
 -- none of it is in flight
-pub none_missed : (f : Format) (v : SenderView) (from below : ℕ) → IsReached f v → below ≤ v.cum → first_in_flight v from below ≡ None
-none_missed f v from below reached le =
-    lowest_none (passes_at v.plan (λ i e. (nat_le from i && nat_lt i below) && is_in_flight v i e)) (length v.plan.entries)
-    (λ i lo hi. off_within v (λ j. nat_le from j && nat_lt j below) (is_in_flight v) (passed_by v from below (is_bounded f v reached) le) (landed_at v) i)
+pub none_missed : (f : Format) (v : SenderView) (test : ℕ → Bool) → IsReached f v → ((i : ℕ) → v.cum < i → test i ≡ false) → first_in_flight v test ≡ None
+none_missed f v test reached off =
+    lowest_none (passes_at v.plan (λ i e. test i && is_in_flight v i e)) (length v.plan.entries)
+    (λ i lo hi. off_within v test (is_in_flight v) (passed_by v test (is_bounded f v reached) off) (landed_at v) i)
 
 -- none of it is marked
-pub none_marked : (f : Format) (v : SenderView) (from below : ℕ) → IsReached f v → below ≤ v.cum → marking v (λ i. nat_le from i && nat_lt i below) ≡ v
-none_marked f v from below reached le = ap (λ (m : ℕ → Bool). record v { marked = m }) (λ k i. at i k)
+pub none_marked : (f : Format) (v : SenderView) (test : ℕ → Bool) → IsReached f v → ((i : ℕ) → v.cum < i → test i ≡ false) → marking v test ≡ v
+none_marked f v test reached off = ap (λ (m : ℕ → Bool). record v { marked = m }) (λ k i. at i k)
   where
-    test : ℕ → Bool
-    test i = nat_le from i && nat_lt i below
-
-    off : (i : ℕ) (e : Entry) → v.covered i ≡ true → is_to_repeat v i e ≡ false
-    off i e on = ap (λ (b : Bool). b && not (is_worn v i e)) (settled_at v i e on)
+    none : (i : ℕ) (e : Entry) → v.covered i ≡ true → is_to_repeat v i e ≡ false
+    none i e on = ap (λ (b : Bool). b && not (is_worn v i e)) (settled_at v i e on)
 
     at : (i : ℕ) → (v.marked i || (test i && some_passes (is_to_repeat v i) (entry_at v.plan i))) ≡ v.marked i
-    at i = ap (λ (b : Bool). v.marked i || b) (off_at v test (is_to_repeat v) (passed_by v from below (is_bounded f v reached) le) off i) ∙ or_false (v.marked i)
+    at i = ap (λ (b : Bool). v.marked i || b) (off_at v test (is_to_repeat v) (passed_by v test (is_bounded f v reached) off) none i) ∙ or_false (v.marked i)
 
 -- none of it is given up
 none_worn : (v : SenderView) (test : ℕ → Bool) → IsPassed v test → (i : ℕ) → wear_one test v i ≡ v
@@ -137,14 +149,14 @@ chosen : {A : Type 0} (b : Bool) (x y : A) → x ≡ y → (if b then x else y) 
 chosen true x y same = same
 chosen false x y same = refl
 
--- nothing is given up at it of what CUM passed
-pub spared : (f : Format) (v : EndView) (from below : ℕ) → IsReached f v.sender → settled v ≡ v → rested v ≡ v → below ≡ missed_below v.pace → below ≤ v.sender.cum → wearing from v ≡ v
-spared f v from below reached settles rests is le = by v.pace is
+-- nothing is given up at it if none above CUM is missed
+pub spared : (f : Format) (v : EndView) (from : ℕ) → IsReached f v.sender → settled v ≡ v → rested v ≡ v → ((p : Pace) → v.pace ≡ Some p → (i : ℕ) → v.sender.cum < i → is_missed p.misses i ≡ false)
+    → wearing from v ≡ v
+spared f v from reached settles rests none = by v.pace none
   where
-    by : (o : Option Pace) → below ≡ missed_below o → worn_since o from v ≡ v
-    by None is_none = refl
-    by (Some p) is_some =
-        let low : below ≡ p.misses.passed = is_some in
-        let test : ℕ → Bool = λ i. nat_le from i && nat_lt i p.misses.passed in
-        let none = none_worn_from v.sender test (passed_by v.sender from p.misses.passed (is_bounded f v.sender reached) (omega (arith, low, le))) 1 (length v.sender.plan.entries) in
-        chosen (nat_lt from p.misses.passed && hears (λ g. true) v.phase) (after_abandoning v (worn test v.sender)) v (ap (λ (s : SenderView). after_abandoning v s) none ∙ still v settles rests)
+    by : (o : Option Pace) → ((p : Pace) → o ≡ Some p → (i : ℕ) → v.sender.cum < i → is_missed p.misses i ≡ false) → worn_since o from v ≡ v
+    by None off = refl
+    by (Some p) off =
+        let test : ℕ → Bool = is_missed p.misses in
+        let unworn = none_worn_from v.sender test (passed_by v.sender test (is_bounded f v.sender reached) (off p refl)) 1 (length v.sender.plan.entries) in
+        chosen (nat_lt from p.misses.third && hears (λ g. true) v.phase) (after_abandoning v (worn test v.sender)) v (ap (λ (s : SenderView). after_abandoning v s) unworn ∙ still v settles rests)

@@ -1,25 +1,29 @@
 -- A chunk that is put in, doesn't fit or isn't due is a step of the specification's filling order, and so are several one after the other.
 use Rattle.std.proofs.Common.{Result, Ok, Err, IfOk, ◌≡◌, ◌∙◌, ℕ, ◌<◌, nat_le, replicate, length-append, Bool, true, false, not, List, [], ◌∷◌, ◌++◌, Option, None, length, refl, ap, sym, subst, arith}
+use Rattle.sctp_model.specs.numbers.Limits.{BLOCK_LIMIT}
 use Rattle.sctp_model.specs.wire.Typed.{Typed, typed_bytes, filled, written_typed}
 use Rattle.sctp_model.specs.wire.Chunk.{ChunkMeaning, BlockMeaning, SackMeaning, Sack, Shutdown, padding_after}
 use Rattle.sctp_model.specs.messages.Acknowledgement.{IsRun}
 use Rattle.sctp_model.specs.wire.Packet.{size_of_packet}
 use Rattle.sctp_model.specs.numbers.Serial.{tsn}
-use Rattle.sctp_model.specs.receiver.ReceiverView.{ReceiverView, IsCumulative}
+use Rattle.sctp_model.specs.receiver.ReceiverView.{ReceiverView, IsCumulative, room_left}
 use Rattle.sctp_model.specs.receiver.SackMade.{IsSack, sack_sent}
 use Rattle.sctp_model.specs.receiver.ResetTaken.{with_answers}
-use Rattle.sctp_model.specs.end.EndView.{EndView, Alarm, Timer}
+use Rattle.sctp_model.specs.end.EndView.{EndView, Alarm, ShutdownAlarm, Timer}
 use Rattle.sctp_model.specs.end.Clock.{started}
+use Rattle.sctp_model.specs.end.Beating.{guarded}
 use Rattle.sctp_model.specs.end.Reports.{written}
 use Rattle.sctp_model.specs.end.Building.{Slot, SackSlot, ShutdownSlot, is_due, has_some, has_causes, Wants, Acknowledge, SayShutdown, once_built, Puts, NoMore, NotDue, Put, IsFull}
 use Rattle.sctp_model.proofs.TypedLemmas.{length-item}
+use Rattle.sctp_terms.specs.PlainOptions.{HasPlainOptions}
 use Rattle.sctp_packet.specs.Draft.{Draft, has_room, after_try, with_chunks}
 use Rattle.sctp_association.specs.StartsMean.{starts_at, with_start, started_from}
-use Rattle.sctp_association.specs.Drafted.{value_left, causes_left, receiver_left, answers_left, delayed_left, drafted, IsOf, PutsAt}
+use Rattle.sctp_association.specs.Drafted.{value_left, causes_left, receiver_left, answers_left, offered_left, delayed_left, drafted, IsOf, PutsAt}
 use Rattle.sctp_association.specs.declared.time.starts.Starts.{Starts}
 use Rattle.sctp_association.specs.declared.build.packing.Marks.{Marks}
 use Rattle.sctp_association.specs.declared.build.packing.Packing.{Packing}
 use Rattle.sctp_association.proofs.StartLemmas.{start_more}
+use Rattle.sctp_association.proofs.OptionLemmas.{unguarded, few_blocks}
 
 -- ---- one place
 
@@ -43,7 +47,7 @@ stays_out s e old new x put due wants packet is room after =
     let same : new ≡ old.writer = after ∙ ap (after_try old.writer x) is in
     let here : PutsAt (s ∷ []) e old (record { writer = old.writer; marks = old.marks }) false = record {
       puts = IsFull s [] (drafted old.marks e) x old.writer.chunks due wants (fits_end e old x put false packet is room);
-      packet = record { limit = packet.limit; source = packet.source; destination = packet.destination; tag = packet.tag; sack = packet.sack };
+      packet = record { options = packet.options; limit = packet.limit; source = packet.source; destination = packet.destination; tag = packet.tag; sack = packet.sack };
     } in
     subst (λ (d : Draft). PutsAt (s ∷ []) e old (record { writer = d; marks = old.marks }) false) (sym same) here
 
@@ -58,7 +62,7 @@ goes_in s e old n new x put due wants leaves fewer packet is room after =
     subst (λ (y : EndView). Puts [] y zs zs false (drafted n e)) (sym leaves) (NoMore (drafted n e) zs) in
     let there : PutsAt (s ∷ []) e old (record { writer = with_chunks old.writer (x ∷ []); marks = n }) true = record {
       puts = Put s [] (drafted old.marks e) x old.writer.chunks zs false (drafted n e) due wants (fits_end e old x put true packet is room) last;
-      packet = record { limit = packet.limit; source = packet.source; destination = packet.destination; tag = packet.tag; sack = λ still. packet.sack (fewer still) };
+      packet = record { options = packet.options; limit = packet.limit; source = packet.source; destination = packet.destination; tag = packet.tag; sack = λ still. packet.sack (fewer still) };
     } in
     subst (λ (d : Draft). PutsAt (s ∷ []) e old (record { writer = d; marks = n }) true) (sym same) there
 
@@ -107,6 +111,11 @@ started_left a n e s starts =
     let more = start_more a (starts_at n.starts) e.moment e.timers ∙ ap (λ (p : Alarm → Bool). started_from p e.moment e.timers) (sym starts) in
     ap (λ (g : Alarm → Timer). record (drafted n e) { timers = g }) more
 
+-- a SHUTDOWN that goes out starts its timer, and no other
+pub shutdown_left : (n : Marks) (e : EndView) (s : Starts) → HasPlainOptions e.configuration → starts_at s ≡ with_start ShutdownAlarm (starts_at n.starts)
+    → guarded (started ShutdownAlarm (drafted n e)) ≡ drafted (record n { starts = s }) e
+shutdown_left n e s options starts = unguarded (started ShutdownAlarm (drafted n e)) options ∙ started_left ShutdownAlarm n e s starts
+
 -- a value that went out, or isn't there
 pub none_left : (b : Bool) (x : Option (List ℕ)) → x ≡ None → has_some (value_left b x) ≡ false
 none_left true x none = ap has_some none
@@ -152,7 +161,7 @@ told_run r c b k = record { above = k.above; some = k.some; seen = k.seen; befor
 run_told : (r : ReceiverView) (c : ℕ) (b : BlockMeaning) → IsRun (with_answers r []) c b → IsRun r c b
 run_told r c b k = record { above = k.above; some = k.some; seen = k.seen; before = k.before; after = k.after }
 
-told_sack : (b : Bool) (r : ReceiverView) (s : SackMeaning) → IsSack r s → IsSack (answers_left b r) s
+told_sack : (b : Bool) (r : ReceiverView) (s : SackMeaning) → IsSack BLOCK_LIMIT r s → IsSack BLOCK_LIMIT (answers_left b r) s
 told_sack true r s k = k
 told_sack false r s k = record {
   c = k.c;
@@ -180,20 +189,34 @@ before_sack true false r due = absurd (let never : false ≡ true = due in cc)
 before_sack false is r due = refl
 
 -- the SACK of the receiver goes out
-pub acknowledges : (e : EndView) (m : Marks) (s : SackMeaning) → m.sack ≡ true → IsSack e.receiver s → Wants (drafted m e) SackSlot (Sack s)
-acknowledges e m s due is = Acknowledge s (told_sack m.answers _ s (subst (λ (r : ReceiverView). IsSack r s) (sym (before_sack e.due.sack m.sack e.receiver due)) is))
+pub acknowledges : (e : EndView) (m : Marks) (s : SackMeaning) → HasPlainOptions e.configuration → m.sack ≡ true → IsSack BLOCK_LIMIT e.receiver s → Wants (drafted m e) SackSlot (Sack s)
+acknowledges e m s options due is =
+    let here = told_sack m.answers _ s (subst (λ (r : ReceiverView). IsSack BLOCK_LIMIT r s) (sym (before_sack e.due.sack m.sack e.receiver due)) is) in
+    Acknowledge s (subst (λ (n : ℕ). IsSack n (drafted m e).receiver s) (sym (few_blocks e.configuration options)) here)
+
+-- responses take no space of its buffer
+room_told : (b : Bool) (r : ReceiverView) → room_left (answers_left b r) ≡ room_left r
+room_told true r = refl
+room_told false r = refl
 
 -- in either order
 sent_told : (b : Bool) (r : ReceiverView) → sack_sent (answers_left b r) ≡ answers_left b (sack_sent r)
 sent_told true r = refl
 sent_told false r = refl
 
--- and the receiver has told its duplicates, and no SACK waits
+-- and the receiver has told its window and its duplicates, and no SACK waits
 pub sack_left : (e : EndView) (m : Marks) → m.sack ≡ true → e.due.sack ≡ true → once_built SackSlot (drafted m e) ≡ drafted (record m { sack = false }) e
 sack_left e m due was =
     let same : receiver_left e.due.sack m.sack e.receiver ≡ e.receiver = before_sack e.due.sack m.sack e.receiver due in
     let after : sack_sent (answers_left m.answers (receiver_left e.due.sack m.sack e.receiver)) ≡ answers_left m.answers (receiver_left e.due.sack false e.receiver) =
     ap (λ (r : ReceiverView). sack_sent (answers_left m.answers r)) same ∙ (sent_told m.answers e.receiver ∙ sym (ap (λ (b : Bool). answers_left m.answers (receiver_left b false e.receiver)) was)) in
+    let told : room_left (answers_left m.answers (receiver_left e.due.sack m.sack e.receiver)) ≡ offered_left e.due.sack false e.receiver e.offered =
+    room_told m.answers (receiver_left e.due.sack m.sack e.receiver) ∙ (ap room_left same ∙ sym (ap (λ (b : Bool). offered_left b false e.receiver e.offered) was)) in
     let gone : None ≡ delayed_left e.due.sack false e.delayed = sym (ap (λ (b : Bool). delayed_left b false e.delayed) was) in
-    ap (λ (r : ReceiverView). record (drafted (record m { sack = false }) e) { delayed = None; receiver = r }) after
+    ap (λ (r : ReceiverView). record (drafted (record m { sack = false }) e) {
+      delayed = None;
+      offered = room_left (answers_left m.answers (receiver_left e.due.sack m.sack e.receiver));
+      receiver = r;
+    }) after
+    ∙ ap (λ (n : ℕ). record (drafted (record m { sack = false }) e) { delayed = None; offered = n }) told
     ∙ ap (λ (n : Option ℕ). record (drafted (record m { sack = false }) e) { delayed = n }) gone

@@ -23,13 +23,14 @@ use Rattle.sctp_association.specs.declared.machine.Machine.{Machine}
 use Rattle.sctp_association.specs.declared.traffic.Traffic.{Traffic}
 use Rattle.sctp_association.specs.declared.state.life.Association.{Association}
 use Rattle.sctp_association.specs.declared.state.life.Life.TheVariants as life
+use Rattle.sctp_association.proofs.CumLemmas.{no_lower}
 use Rattle.sctp_association.proofs.MachineLemmas.{with_resets}
 
 -- ---- a response acts beside the receiver
 
 -- no request is outstanding
 abbrev pub rests : EndView → EndView
-rests e = with_timer ResetAlarm unused_timer (with_due (record e.due { request = false }) e)
+rests e = with_timer ResetAlarm (unused_timer e.configuration.first_wait) (with_due (record e.due { request = false }) e)
 
 progress_beside : (b : Bool) (e : EndView) (r : ReceiverView) → in_progress b (record e { receiver = r }) ≡ record (in_progress b e) { receiver = r }
 progress_beside true e r = refl
@@ -145,7 +146,7 @@ requests_stand m a s v n ps (Ok u) is k on same (c, up, stands) =
       c,
       up,
       with_resets m a s v v.sender t is k (subst (λ (l : ℕ). TrafficStands s (format_for v.terms.interleave) v.sender (all_requested l c v.receiver ps)) same stands)
-          (all_buffer v.configuration.limit c v.receiver ps) (λ off. absurd (false≢true (sym off ∙ on))),
+          (no_lower v.sender.cum) (all_buffer v.configuration.limit c v.receiver ps) (λ off. absurd (false≢true (sym off ∙ on))),
     )
 requests_stand m a s v n ps (Err why) is k on same stands = tt
 

@@ -74,7 +74,7 @@ length-unknown kind flags value = omega arith
 -- ---- an end whose causes are others
 
 due_causes : (d : Due) (w : WaitingCauses) (v : EndView) (xs : List Typed) → DueStands d v.due → WritesTyped w.bytes.items xs → DueStands (record d { causes = w }) (record v.due { causes = xs })
-due_causes d w v xs s writes = record { init = s.init; cookie_echo = s.cookie_echo; cookie_ack = s.cookie_ack; heartbeat = s.heartbeat; causes = writes; sack = s.sack; forward = s.forward; request = s.request; shutdown = s.shutdown; shutdown_ack = s.shutdown_ack }
+due_causes d w v xs s writes = record { init = s.init; cookie_echo = s.cookie_echo; cookie_ack = s.cookie_ack; heartbeat = s.heartbeat; beat = s.beat; causes = writes; sack = s.sack; forward = s.forward; request = s.request; shutdown = s.shutdown; shutdown_ack = s.shutdown_ack }
 
 pub waiting : (m : Machine) (v : EndView) (w : WaitingCauses) (xs : List Typed) → KeepsMachine m v → WritesTyped w.bytes.items xs
     → KeepsMachine (record m { due = record m.due { causes = w } }) (with_causes xs v)

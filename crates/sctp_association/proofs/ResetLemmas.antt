@@ -8,8 +8,8 @@ use Rattle.sctp_model.specs.wire.Reconfig.{ResetMeaning}
 use Rattle.sctp_model.specs.messages.Format.{Format}
 use Rattle.sctp_model.specs.sender.Outgoing.{is_resetting, Request}
 use Rattle.sctp_model.specs.sender.Resetting.{resetting, retried, response_taken, is_open_number}
-use Rattle.sctp_model.specs.sender.SenderView.{SenderView, fresh_sender}
-use Rattle.sctp_model.specs.receiver.ReceiverView.{ReceiverView, fresh_receiver}
+use Rattle.sctp_model.specs.sender.SenderView.{SendLimits, SenderView, fresh_sender}
+use Rattle.sctp_model.specs.receiver.ReceiverView.{fresh_receiver}
 use Rattle.sctp_model.specs.receiver.ResetTaken.{old_waiting, told_of}
 use Rattle.sctp_model.specs.end.EndView.{EndView, format_for}
 use Rattle.sctp_model.specs.end.EndView as model
@@ -29,6 +29,7 @@ use Rattle.sctp_association.specs.declared.traffic.Traffic.{Traffic}
 use Rattle.sctp_association.specs.declared.state.life.Unjoined.{Unjoined}
 use Rattle.sctp_association.specs.declared.state.life.Association.{Association}
 use Rattle.sctp_association.specs.declared.state.life.Life.TheVariants as life
+use Rattle.sctp_association.proofs.CumLemmas.{no_lower}
 use Rattle.sctp_association.proofs.MachineLemmas.{joined, unjoined, with_traffic, with_resets}
 
 -- ---- before an association
@@ -39,27 +40,27 @@ unreset m x v is k = ap (λ (t : model.Terms). t.reset) (unjoined m x v is k).te
 none_below : (n : ℕ) → nat_lt n 0 ≡ false
 none_below n = grind (arith, nat_tests)
 
-pub resetting_fresh : (s : SenderView) (f stream : ℕ) → s ≡ fresh_sender 0 0 f 0 false → false ≡ (nat_lt stream s.streams && is_resetting (s.resets.sending stream))
-resetting_fresh s f stream is =
+pub resetting_fresh : (s : SenderView) (f : ℕ) (l : SendLimits) (stream : ℕ) → s ≡ fresh_sender 0 0 f 0 false l → false ≡ (nat_lt stream s.streams && is_resetting (s.resets.sending stream))
+resetting_fresh s f l stream is =
     sym (ap (λ (x : SenderView). nat_lt stream x.streams && is_resetting (x.resets.sending stream)) is ∙ ap (λ (b : Bool). b && false) (none_below stream))
 
-pub none_resetting : (s : SenderView) (f : ℕ) → s ≡ fresh_sender 0 0 f 0 false → 0 ≡ resetting_streams s
-none_resetting s f is = sym (ap resetting_streams is)
+pub none_resetting : (s : SenderView) (f : ℕ) (l : SendLimits) → s ≡ fresh_sender 0 0 f 0 false l → 0 ≡ resetting_streams s
+none_resetting s f l is = sym (ap resetting_streams is)
 
-pub responded_fresh : (s : SenderView) (f n k : ℕ) → s ≡ fresh_sender 0 0 f 0 false → response_taken s n k ≡ s
-responded_fresh s f n k is = ap (λ (x : SenderView). response_taken x n k) is ∙ sym is
+pub responded_fresh : (s : SenderView) (f : ℕ) (l : SendLimits) (n k : ℕ) → s ≡ fresh_sender 0 0 f 0 false l → response_taken s n k ≡ s
+responded_fresh s f l n k is = ap (λ (x : SenderView). response_taken x n k) is ∙ sym is
 
-pub retried_fresh : (s : SenderView) (f : ℕ) → s ≡ fresh_sender 0 0 f 0 false → retried s ≡ s
-retried_fresh s f is = ap (λ (x : SenderView). retried x) is ∙ sym is
+pub retried_fresh : (s : SenderView) (f : ℕ) (l : SendLimits) → s ≡ fresh_sender 0 0 f 0 false l → retried s ≡ s
+retried_fresh s f l is = ap (λ (x : SenderView). retried x) is ∙ sym is
 
-pub unasked_fresh : (s : SenderView) (f n : ℕ) → s ≡ fresh_sender 0 0 f 0 false → false ≡ is_open_number s n
-unasked_fresh s f n is = sym (ap (λ (x : SenderView). is_open_number x n) is)
+pub unasked_fresh : (s : SenderView) (f : ℕ) (l : SendLimits) (n : ℕ) → s ≡ fresh_sender 0 0 f 0 false l → false ≡ is_open_number s n
+unasked_fresh s f l n is = sym (ap (λ (x : SenderView). is_open_number x n) is)
 
-pub none_pending : (s : SenderView) (f : ℕ) → s ≡ fresh_sender 0 0 f 0 false → false ≡ is_some s.resets.pending
-none_pending s f is = sym (ap (λ (x : SenderView). is_some x.resets.pending) is)
+pub none_pending : (s : SenderView) (f : ℕ) (l : SendLimits) → s ≡ fresh_sender 0 0 f 0 false l → false ≡ is_some s.resets.pending
+none_pending s f l is = sym (ap (λ (x : SenderView). is_some x.resets.pending) is)
 
-pub none_told : (v : EndView) (b : ℕ) → v.receiver ≡ fresh_receiver 0 0 b → model_calls.reset_there v ≡ None
-none_told v b is = ap reset_there is
+pub none_told : (v : EndView) (b n : ℕ) → v.receiver ≡ fresh_receiver 0 0 b n → model_calls.reset_there v ≡ None
+none_told v b n is = ap reset_there is
 
 -- ---- reset
 
@@ -100,8 +101,8 @@ pub told_stands : (m : Machine) (a : Association) (s : Traffic) (v : EndView) (o
     ((reset_there v.receiver ≡ None) × TrafficStands s (format_for v.terms.interleave) v.sender v.receiver)
     (λ t. (reset_there v.receiver ≡ Some t.stream) × (t.count ≡ old_waiting v.receiver t.stream) × TrafficStands s (format_for v.terms.interleave) v.sender (told_of v.receiver t.stream))
     → KeepsMachine (record m { life = life.Joined (record a { traffic = s }) }) (told_view v o)
-told_stands m a s v None is k h = with_traffic m a s v v.sender v.receiver is k h.1 refl refl
-told_stands m a s v (Some t) is k h = with_resets m a s v v.sender (told_of v.receiver t.stream) is k h.2 refl (joined m a v is k).answers
+told_stands m a s v None is k h = with_traffic m a s v v.sender v.receiver is k h.1 (no_lower v.sender.cum) refl refl
+told_stands m a s v (Some t) is k h = with_resets m a s v v.sender (told_of v.receiver t.stream) is k h.2 (no_lower v.sender.cum) refl (joined m a v is k).answers
 
 -- ---- the request that waits
 
@@ -121,5 +122,5 @@ asked_some s (Some q) h = sym (ap is_some h.waits)
 pub begun_stands : (m : Machine) (a : Association) (s : Traffic) (v : EndView) (stream : ℕ) (r : Result (Unit {0}) NoMemory) → m.life ≡ life.Joined a → KeepsMachine m v
     → OnOk r (TrafficStands s (format_for v.terms.interleave) (resetting v.sender stream) v.receiver)
     → OnOk r (KeepsMachine (record m { life = life.Joined (record a { traffic = s }) }) (record v { sender = resetting v.sender stream }))
-begun_stands m a s v stream (Ok u) is k stands = with_traffic m a s v (resetting v.sender stream) v.receiver is k stands refl refl
+begun_stands m a s v stream (Ok u) is k stands = with_traffic m a s v (resetting v.sender stream) v.receiver is k stands (no_lower v.sender.cum) refl refl
 begun_stands m a s v stream (Err why) is k stands = tt

@@ -7,7 +7,7 @@ use Rattle.sctp_model.specs.wire.Chunk.{ChunkMeaning}
 use Rattle.sctp_model.specs.wire.Packet.{size_of_chunks, size_of_packet}
 use Rattle.sctp_model.specs.sender.SenderView.{SenderView}
 use Rattle.sctp_model.specs.sender.Filling.{Wish, chunk_of, Follows}
-use Rattle.sctp_model.specs.end.EndView.{EndView, Alarm, InitAlarm, CookieAlarm, DataAlarm, ShutdownAlarm, AckAlarm, ResetAlarm, Timer}
+use Rattle.sctp_model.specs.end.EndView.{EndView, Alarm, InitAlarm, CookieAlarm, DataAlarm, ShutdownAlarm, AckAlarm, ResetAlarm, BeatAlarm, GuardAlarm, Timer}
 use Rattle.sctp_model.specs.end.Clock.{replaced}
 use Rattle.sctp_model.specs.end.Building.{timer_after}
 use Rattle.sctp_model.proofs.sender.FillLaws.{goes_parts, room_fits, room_some}
@@ -36,6 +36,8 @@ data_same f DataAlarm = refl
 data_same f ShutdownAlarm = refl
 data_same f AckAlarm = refl
 data_same f ResetAlarm = refl
+data_same f BeatAlarm = refl
+data_same f GuardAlarm = refl
 
 -- the timers once that of fragments starts, if there is a wish
 pub fragments_after : (e : EndView) (m : Marks) (ws : List Wish)

@@ -8,13 +8,11 @@ use Rattle.sctp_model.specs.messages.Format.{Format}
 use Rattle.sctp_model.specs.messages.Framing.{forward_chunk}
 use Rattle.sctp_model.specs.sender.SentChunks.{forward_said, forward_end}
 use Rattle.sctp_model.specs.end.EndView.{EndView, format_of}
-use Rattle.sctp_model.specs.end.Building.{Slot, Wants, EchoCookie, AckCookie, AckHeartbeat, ReportCauses, Acknowledge, PassOn, AnswerReset, AskReset, SayShutdown, AnswerShutdown, once_built, Puts, NoMore, NotDue, Put, IsFull, filled_behind, fragments}
+use Rattle.sctp_model.specs.end.Building.{Slot, Wants, EchoCookie, AckCookie, AckHeartbeat, Beat, ReportCauses, Acknowledge, PassOn, AnswerReset, AskReset, SayShutdown, AnswerShutdown, once_built, Puts, NoMore, NotDue, Put, IsFull, filled_behind, fragments}
 use Rattle.sctp_model.specs.end.Reconfiguring.{asking}
-use Rattle.sctp_model.specs.end.Wearing.{missed_below}
-use Rattle.sctp_send.specs.FillAnswers.{sendings_of}
-use Rattle.sctp_send.specs.declared.fill.Filled.{Filled}
-use Rattle.sctp_send.specs.declared.fill.sendings.Sendings.{Sendings}
-use Rattle.sctp_association.specs.Sends.{IsControl, FillsNone, Sends, SendsNone, SendsBehind}
+use Rattle.sctp_association.specs.declared.build.sendings.Filled.{Filled}
+use Rattle.sctp_association.specs.declared.build.sendings.Sendings.{Sendings}
+use Rattle.sctp_association.specs.Sends.{IsControl, FillsNone, sendings_by, Sends, SendsNone, SendsBehind}
 
 -- ---- control chunks
 
@@ -27,6 +25,7 @@ wants_control : (e : EndView) (s : Slot) (x : ChunkMeaning) → Wants e s x → 
 wants_control e _ _ (EchoCookie t xs is) = refl
 wants_control e _ _ AckCookie = refl
 wants_control e _ _ (AckHeartbeat info is) = refl
+wants_control e _ _ Beat = refl
 wants_control e _ _ ReportCauses = refl
 wants_control e _ _ (Acknowledge s is) = refl
 wants_control e _ _ PassOn = forward_control (format_of e) e
@@ -56,8 +55,8 @@ sends_none e zs x control none = subst (Sends e zs) (sym none.sendings) (SendsNo
 pub sends_nothing : (e : EndView) (zs : List ChunkMeaning) (x : Filled) → zs ≡ [] → FillsNone x → Sends e zs x.sendings
 sends_nothing e zs x empty none = subst (λ (ys : List ChunkMeaning). Sends e ys x.sendings) (sym empty) (sends_none e [] x (All-nil IsControl) none)
 
-pub sends_behind : (e : EndView) (zs cs : List ChunkMeaning) (x : Sendings) → asking e ≡ e → All IsControl zs → cs ≡ zs ++ fragments e zs → x ≡ sendings_of (missed_below e.pace) (filled_behind e zs).wishes → Sends e cs x
+pub sends_behind : (e : EndView) (zs cs : List ChunkMeaning) (x : Sendings) → asking e ≡ e → All IsControl zs → cs ≡ zs ++ fragments e zs → x ≡ sendings_by e.pace (filled_behind e zs).wishes → Sends e cs x
 sends_behind e zs cs x asked control chunks is =
-    let here : Sends e (zs ++ fragments e zs) (sendings_of (missed_below e.pace) (filled_behind e zs).wishes) =
-    subst (λ (y : EndView). Sends e (zs ++ fragments y zs) (sendings_of (missed_below e.pace) (filled_behind y zs).wishes)) asked (SendsBehind zs control) in
+    let here : Sends e (zs ++ fragments e zs) (sendings_by e.pace (filled_behind e zs).wishes) =
+    subst (λ (y : EndView). Sends e (zs ++ fragments y zs) (sendings_by e.pace (filled_behind y zs).wishes)) asked (SendsBehind zs control) in
     subst (λ (ys : List ChunkMeaning). Sends e ys x) (sym chunks) (subst (Sends e (zs ++ fragments e zs)) (sym is) here)

@@ -1,7 +1,7 @@
 -- Timers that a packet starts: one more may be noted in any order, and one that runs already keeps its expiry.
 use Rattle.std.proofs.Common.{◌≡◌, ◌∙◌, ℕ, zero, suc, Bool, true, false, ◌==◌, if◌then◌else◌, Option, Some, None, refl, ap, sym, arith}
 use Rattle.std.proofs.lemmas.Bool.Decides.{nat_tests}
-use Rattle.sctp_model.specs.end.EndView.{Alarm, InitAlarm, CookieAlarm, DataAlarm, ShutdownAlarm, AckAlarm, ResetAlarm, Timer}
+use Rattle.sctp_model.specs.end.EndView.{Alarm, InitAlarm, CookieAlarm, DataAlarm, ShutdownAlarm, AckAlarm, ResetAlarm, BeatAlarm, GuardAlarm, Timer}
 use Rattle.sctp_model.specs.end.Clock.{running, replaced, alarm_number}
 use Rattle.sctp_association.specs.StartsMean.{with_start, started_if, started_from}
 
@@ -13,7 +13,9 @@ alarm_of (suc zero) = CookieAlarm
 alarm_of (suc (suc zero)) = DataAlarm
 alarm_of (suc (suc (suc zero))) = ShutdownAlarm
 alarm_of (suc (suc (suc (suc zero)))) = AckAlarm
-alarm_of (suc (suc (suc (suc (suc n))))) = ResetAlarm
+alarm_of (suc (suc (suc (suc (suc zero))))) = ResetAlarm
+alarm_of (suc (suc (suc (suc (suc (suc zero)))))) = BeatAlarm
+alarm_of (suc (suc (suc (suc (suc (suc (suc n))))))) = GuardAlarm
 
 told : (a : Alarm) → alarm_of (alarm_number a) ≡ a
 told InitAlarm = refl
@@ -22,6 +24,8 @@ told DataAlarm = refl
 told ShutdownAlarm = refl
 told AckAlarm = refl
 told ResetAlarm = refl
+told BeatAlarm = refl
+told GuardAlarm = refl
 
 same_number : (m n : ℕ) → (m == n) ≡ true → m ≡ n
 same_number m n is = grind (arith, nat_tests)

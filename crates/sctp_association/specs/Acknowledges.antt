@@ -12,7 +12,7 @@ rests_after v x = settled (record v { sender = sack_taken v.sender x; due = reco
 
 -- its data timer: it counts anew, and begins anew if CUM moved (6.3.2)
 abbrev pub timer_after : EndView → SackMeaning → Timer
-timer_after v x = renewed v.moment (nat_lt v.sender.cum (sack_taken v.sender x).cum) ((rests_after v x).timers DataAlarm)
+timer_after v x = renewed v.configuration.first_wait v.moment (nat_lt v.sender.cum (sack_taken v.sender x).cum) ((rests_after v x).timers DataAlarm)
 
 -- the end after the cumulative TSN of a SHUTDOWN, but for its data timer
 abbrev pub shut_rests : EndView → ℕ → EndView
@@ -20,4 +20,6 @@ shut_rests v tsn = settled (record v { sender = shutdown_taken v.sender tsn })
 
 -- its data timer (6.3.2 and 9.2)
 abbrev pub shut_timer_of : EndView → ℕ → Timer
-shut_timer_of v tsn = shut_timer v.configuration.standard_closing (nat_lt v.sender.cum (shutdown_taken v.sender tsn).cum) v.moment ((shut_rests v tsn).timers DataAlarm)
+shut_timer_of v tsn =
+    let moved = nat_lt v.sender.cum (shutdown_taken v.sender tsn).cum in
+    shut_timer v.configuration.standard_closing moved v.configuration.first_wait v.moment ((shut_rests v tsn).timers DataAlarm)

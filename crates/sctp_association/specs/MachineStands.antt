@@ -3,9 +3,11 @@ use Rattle.std.specs.Prelude.{◌≡◌, ◌≤◌, false, [], None, vec_capacit
 use Rattle.sctp_model.specs.sender.SenderView.{SenderView, fresh_sender}
 use Rattle.sctp_model.specs.receiver.ReceiverView.{ReceiverView, fresh_receiver}
 use Rattle.sctp_model.specs.end.Sealing.{Sealing}
-use Rattle.sctp_model.specs.end.EndView.{EndView, Configuration, Terms, no_terms, format_for}
+use Rattle.sctp_model.specs.end.EndView.{EndView, Configuration, send_limits, Terms, no_terms, no_beats, format_for}
 use Rattle.sctp_model.specs.end.EndView as model
 use Rattle.sctp_cookie.specs.Seals.{IsUnder}
+use Rattle.sctp_terms.specs.PlainOptions.{HasPlainOptions}
+use Rattle.sctp_congestion.specs.PaceStands.{PacesStand}
 use Rattle.sctp_association.specs.TimersMean.{timers_meaning}
 use Rattle.sctp_opening.specs.Terms.{terms_meaning}
 use Rattle.sctp_association.specs.PhaseMeans.{phase_of}
@@ -27,8 +29,8 @@ RoleStands Paired r = r ≡ model.Paired
 -- before an association nothing stands in terms, sender and receiver
 pub record IsUnjoined (c : Configuration) (t : Terms) (s : SenderView) (r : ReceiverView) : Type 0 where
   pub terms : t ≡ no_terms
-  pub sender : s ≡ fresh_sender 0 0 c.fragment 0 false
-  pub receiver : r ≡ fresh_receiver 0 0 c.buffer
+  pub sender : s ≡ fresh_sender 0 0 c.fragment 0 false (send_limits c)
+  pub receiver : r ≡ fresh_receiver 0 0 c.buffer c.reserve
 
 -- An association has its terms, and its traffic goes on in the format agreed on, with the receive buffer that the end is set up with. Without stream reset no response waits.
 pub record IsJoined (a : Association) (c : Configuration) (t : Terms) (s : SenderView) (r : ReceiverView) : Type 0 where
@@ -43,6 +45,7 @@ LifeStands (Unjoined x) c t s r = IsUnjoined c t s r
 LifeStands (Joined a) c t s r = IsJoined a c t s r
 
 -- Each part stands for its part; without fast retransmit there is no pace; the buffer that is kept for the next packet is part of no view, and no larger than a packet may be.
+-- The end asks for none of the options that are plain, and so sends no HEARTBEATs; what window it advertised last is read by none that is on.
 pub record KeepsMachine (m : Machine) (v : EndView) : Type 0 where
   pub configuration : m.config ≡ v.configuration
   pub role : RoleStands m.role v.role
@@ -53,8 +56,10 @@ pub record KeepsMachine (m : Machine) (v : EndView) : Type 0 where
   pub phase : phase_of m.life ≡ v.phase
   pub life : LifeStands m.life v.configuration v.terms v.sender v.receiver
   pub room : vec_capacity m.room ≤ v.configuration.limit
-  pub pace : m.pace ≡ v.pace
+  pub pace : PacesStand (format_for v.terms.interleave) v.sender.cum m.pace v.pace
   pub unpaced : v.configuration.fast_retransmit ≡ false → v.pace ≡ None
+  pub options : HasPlainOptions v.configuration
+  pub beats : v.beats ≡ no_beats
 
 -- Stands for: hidden from the crates above, which know it by the clauses alone.
 unfoldable pub MachineStands : Machine → EndView → Type 0

@@ -12,6 +12,7 @@ use Rattle.sctp_association.specs.declared.build.packing.Marks.{Marks}
 pub record IsPlain (d : Due) (x : model.Due) : Type 0 where
   pub cookie_ack : d.cookie_ack ≡ false
   pub heartbeat : has_some x.heartbeat ≡ false
+  pub beat : x.beat ≡ false
   pub causes : has_causes x.causes ≡ false
   pub forward : d.forward ≡ false
   pub request : d.request ≡ false

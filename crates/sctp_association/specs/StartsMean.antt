@@ -4,7 +4,7 @@ use Rattle.sctp_model.specs.end.EndView as model
 use Rattle.sctp_model.specs.end.Clock.{running, alarm_number}
 use Rattle.sctp_association.specs.declared.time.starts.Starts.{Starts}
 
--- whether this timer starts
+-- whether this timer starts; those of HEARTBEATs and of closing as a whole don't
 abbrev pub starts_at : Starts → model.Alarm → Bool
 starts_at s model.InitAlarm = s.init
 starts_at s model.CookieAlarm = s.cookie
@@ -12,6 +12,8 @@ starts_at s model.DataAlarm = s.fragments
 starts_at s model.ShutdownAlarm = s.shutdown
 starts_at s model.AckAlarm = s.shutdown_ack
 starts_at s model.ResetAlarm = s.reset
+starts_at s model.BeatAlarm = false
+starts_at s model.GuardAlarm = false
 
 -- this timer starts too
 abbrev pub with_start : model.Alarm → (model.Alarm → Bool) → model.Alarm → Bool

@@ -1,5 +1,5 @@
 -- Which traffic stands for which views of a sender and a receiver.
-use Rattle.std.specs.Prelude.{◌≡◌}
+use Rattle.std.specs.Prelude.{◌≡◌, ℕ, List}
 use Rattle.sctp_model.specs.messages.Format.{Format}
 use Rattle.sctp_model.specs.messages.Format as model
 use Rattle.sctp_model.specs.sender.SenderView.{SenderView}
@@ -19,3 +19,8 @@ pub record DirectionsStand {F : Type 0} (f : Format) (d : Directions F) (s : Sen
 abbrev pub TrafficStands : Traffic → Format → SenderView → ReceiverView → Type 0
 TrafficStands (Plain d) f s r = (f ≡ model.Plain) × DirectionsStand model.Plain d s r
 TrafficStands (Interleaved d) f s r = (f ≡ model.Interleaved) × DirectionsStand model.Interleaved d s r
+
+-- the list of indexes that is kept: those that the last packet retransmitted, or that the last SACK took back
+abbrev pub indexes_of : Traffic → List ℕ
+indexes_of (Plain d) = d.indexes.items
+indexes_of (Interleaved d) = d.indexes.items

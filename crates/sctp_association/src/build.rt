@@ -9,26 +9,30 @@ pub mod plain;
 pub mod putting;
 pub mod reconfiguring;
 pub mod replying;
+pub mod sendings;
 
-ghost use Rattle.std.specs.Prelude.{◌≡◌, false, None, IfOk, OnErr};
+ghost use Rattle.std.specs.Prelude.{◌≡◌, ℕ, Option, false, IfOk, OnErr};
 ghost use Rattle.sctp_model.specs.messages.Format.{Format};
 ghost use Rattle.sctp_model.specs.sender.SenderView.{SenderView};
 ghost use Rattle.sctp_model.specs.receiver.ReceiverView.{ReceiverView};
 ghost use Rattle.sctp_model.specs.end.EndView.{EndView, format_of};
 ghost use Rattle.sctp_model.specs.end.EndView as model;
 ghost use Rattle.sctp_model.specs.end.Clock.{at_moment};
+ghost use Rattle.sctp_model.specs.end.Pacing.{Pace};
+ghost use Rattle.sctp_congestion.specs.PaceStands.{PacesStand};
 ghost use Rattle.sctp_association.specs.PhaseMeans.{phase_in, phase_unjoined};
 ghost use Rattle.sctp_association.specs.Asks.{asks};
 ghost use Rattle.sctp_association.specs.DueStands.{DueStands};
 ghost use Rattle.sctp_association.specs.TrafficStands.{TrafficStands};
 ghost use Rattle.sctp_association.specs.MachineStands.{MachineStands};
-ghost use Rattle.sctp_association.specs.Drafted.{IsEmpty, IsPacked, IsPartOf};
+ghost use Rattle.sctp_association.specs.Drafted.{IsEmpty, IsPacked, IsWhole, IsPartOf};
 ghost use Rattle.sctp_association.specs.BuildAnswers.{BuildAnswer};
 
-use crate::build::filling::{fill_behind, filled_none};
+use crate::build::filling::fill_behind;
 use crate::build::packing::Packing;
 use crate::build::plain::apart;
 use crate::build::putting::{put_echoing, put_open};
+use crate::build::sendings::{Filled, Sendings, filled_none};
 use crate::machine::Machine;
 use crate::state::carried::EchoedCookie;
 use crate::state::due::Due;
@@ -37,13 +41,12 @@ use crate::time::timer::Alarm;
 use crate::traffic::Traffic;
 use sctp_congestion::Pacing;
 use sctp_opening::put_init;
-use sctp_send::{Filled, Sendings};
 use sctp_terms::{Config, Draw};
 use sctp_values::{NoMemory, Ticket};
 use std::alloc::Global;
 
 /// A packet to send; the tickets of the messages that were assigned their TSNs with it, by their first TSN; and how many of its DATA and I-DATA chunks
-/// were sent first, retransmitted after an expiry of the data timer, and fast retransmitted (RFC 9260, 6.1, 6.3.3 and 7.2.4).
+/// were sent first and again (RFC 9260, 6.1, 6.3.3 and 7.2.4).
 #[derive(Drop)]
 pub struct Built {
     pub packet: Vec<u8>,
@@ -110,8 +113,8 @@ impl Machine {
     /// `NoMemory` if an allocation was refused.
     fn pack(&mut self, moment: u64, packing: &mut Packing) -> Result<Filled, NoMemory>
         ensures packed { (v : EndView) → MachineStands self.old v → asks v ≡ false → IsEmpty (record v { moment = moment }) packing.old
-            → IfOk result (λ filled. (s : SenderView) × IsPacked (record v { moment = moment }) s self.new.pace packing.new filled
-            × MachineStands self.new (record v { sender = s; pace = self.new.pace })) }
+            → IfOk result (λ filled. (s : SenderView) × (o : Option Pace) × IsPacked (record v { moment = moment }) s o packing.new filled
+            × MachineStands self.new (record v { sender = s; pace = o })) }
         ensures memory { (v : EndView) → MachineStands self.old v → OnErr result (MachineStands self.new v) }
     {
         let alloc = self.alloc;
@@ -185,12 +188,11 @@ fn pack_joined(
     packing: &mut Packing,
 ) -> Result<Filled, NoMemory>
     ensures packed { (e : EndView) → phase_in association.old.tags association.old.progress ≡ e.phase → IsPartOf config.now association.old.traffic due.now e
-        → pace.old ≡ e.pace → moment ≡ e.moment → IsEmpty e packing.old
-        → IfOk result (λ filled. (s : SenderView) × IsPacked e s pace.new packing.new filled × TrafficStands association.new.traffic (format_of e) s e.receiver) }
+        → PacesStand (format_of e) e.sender.cum pace.old e.pace → moment ≡ e.moment → IsEmpty e packing.old
+        → IfOk result (IsWhole e association.new.traffic pace.new packing.new) }
     ensures memory { (f : Format) (s : SenderView) (r : ReceiverView) → TrafficStands association.old.traffic f s r → OnErr result (TrafficStands association.new.traffic f s r) }
     ensures kept { association.new ≡ record association.old { traffic = association.new.traffic } }
-    ensures unchanged { OnErr result (pace.new ≡ pace.old) }
-    ensures unpaced { pace.old ≡ None → pace.new ≡ None }
+    ensures unchanged { (f : Format) (cum : ℕ) (o : Option Pace) → PacesStand f cum pace.old o → OnErr result (PacesStand f cum pace.new o) }
 {
     match &association.progress {
         Progress::Echoing(cookie) => pack_echoing(alloc, cookie, due, packing),
@@ -227,11 +229,10 @@ fn pack_open(
     packing: &mut Packing,
 ) -> Result<Filled, NoMemory>
     ensures packed { (e : EndView) (t : model.Tags) (g : model.Stage) → e.phase ≡ model.Open t g → IsPartOf config.now traffic.old due.now e
-        → pace.old ≡ e.pace → moment ≡ e.moment → IsEmpty e packing.old
-        → IfOk result (λ filled. (s : SenderView) × IsPacked e s pace.new packing.new filled × TrafficStands traffic.new (format_of e) s e.receiver) }
+        → PacesStand (format_of e) e.sender.cum pace.old e.pace → moment ≡ e.moment → IsEmpty e packing.old
+        → IfOk result (IsWhole e traffic.new pace.new packing.new) }
     ensures memory { (f : Format) (s : SenderView) (r : ReceiverView) → TrafficStands traffic.old f s r → OnErr result (TrafficStands traffic.new f s r) }
-    ensures unchanged { OnErr result (pace.new ≡ pace.old) }
-    ensures unpaced { pace.old ≡ None → pace.new ≡ None }
+    ensures unchanged { (f : Format) (cum : ℕ) (o : Option Pace) → PacesStand f cum pace.old o → OnErr result (PacesStand f cum pace.new o) }
 {
     if !put_open(alloc, config, traffic, due, packing)? {
         return Ok(filled_none(alloc));

@@ -5,7 +5,7 @@
 //!
 //! Contracts speak of the specification's view of an endpoint (`EndView` of `sctp_model`) by `MachineStands`, which is hidden from the crates above.
 //! Each call is the specification's function on every view that the endpoint stands for; if an allocation fails, it still stands for the old view.
-//! The crates above name `Machine` and what its calls take and return (`Agreed`, `Built`, `Opened`, `Path`, `Refused`, `Stage`, `Tags`). The promises:
+//! The crates above name `Machine` and what its calls take and return (`Agreed`, `Built`, `Opened`, `Path`, `Refused`, `Sendings`, `Stage`, `Tags`). The promises:
 //!
 //! - **Creation.** A caller begins in CLOSED, a listener in LISTEN with its key (`Machine::caller`, `listener`); two endpoints may begin established,
 //!   without packets (`paired`).
@@ -18,7 +18,7 @@
 //! - **Received chunks.** User data and FORWARD-TSN are processed as the receiver's contract says, an invalid stream is reported (`hear_piece`,
 //!   `hear_forward`). A SACK and the cumulative TSN of a SHUTDOWN are refused for their first fault, or acknowledge, with what that does to the data
 //!   timer and to a FORWARD-TSN that is due (`hear_sack`, `hear_shutdown`). A HEARTBEAT whose value fits a packet, and a SHUTDOWN, are answered (`hear_heartbeat`,
-//!   `answer_shutdown`, `repeat_shutdown_ack`); `abort_with` and `complete` close the endpoint with an ABORT or a SHUTDOWN COMPLETE.
+//!   `answer_shutdown`, `repeat_shutdown_ack`); a HEARTBEAT ACK answers nothing (`hear_heartbeat_ack`); `abort_with` and `complete` close the endpoint with an ABORT or a SHUTDOWN COMPLETE.
 //! - **Stream reset** (RFC 6525, 5). An endpoint that agreed on it resets its outgoing streams (`reset`), makes a request as soon as one is ready, and
 //!   retransmits it until its response arrives, one in progress with its next sequence number (`build`, `on_moment`). A RE-CONFIG acts where stream reset was agreed on and user data is taken: its
 //!   requests at the receiver, its responses at the sender, as one after the other would (`takes_reconfig`, `hear_reconfig`). Each stream that
@@ -27,7 +27,8 @@
 //!   the handshake first (`begin`, `establish`), and computes the RTO of the data timer from them; what an acknowledgement misses for the third time is
 //!   marked for retransmission (`hear_sack`, `hear_shutdown`), and at a packet's end what was missed and may not be retransmitted again is given up
 //!   (`missed_below`, `give_up_missed`). With congestion control a packet has only the space for user data that the congestion window allows (`build`).
-//!   The arithmetic is that of `sctp_congestion`. What a user reads of it: `in_flight`, `path`.
+//!   The arithmetic is that of `sctp_congestion`. What a user reads of it: `in_flight`, `path`. A SACK that takes back what an earlier one acknowledged
+//!   takes memory for that, all of it before anything changes (`hear_sack`, clause `memory`).
 //! - **Acknowledging** (RFC 9260, 6.2). After a packet a SACK is due, and in SHUTDOWN-SENT the SHUTDOWN again. An endpoint that delays SACKs delays it by
 //!   200 ms in any other state, if nothing in the packet asks for it at once and none is owed. With standard closing, data in SHUTDOWN-SENT restarts the
 //!   SHUTDOWN's timer and count (`acknowledge`). Whether received TSNs have a gap: `leaves_gap`.
@@ -41,8 +42,8 @@
 //!   expires, doubles its timeout and counts as RFC 9260, 6.3 says (`Timers`, `Timer`, by equations).
 //! - **The next packet** (`build`: `BuildAnswer`). INIT alone; COOKIE ECHO and an ERROR; or all chunks that are due, in the specification's order, and user
 //!   data after them. There is a packet exactly if the specification's has a chunk; its bytes are that packet, within the packet limit, and its tickets
-//!   those of the messages that were assigned TSNs, by first TSN; how many of its DATA and I-DATA chunks are sent for the first time, after an expiry of the
-//!   data timer, and by fast retransmission, it says too (`Sends`). Chunks that went in are no longer due, their timers run, and a SACK's duplicates are
+//!   those of the messages that were assigned TSNs, by first TSN; how many of its DATA and I-DATA chunks are sent for the first time, and how many again, of
+//!   these with and without three miss indications, it says too (`Sends`). Chunks that went in are no longer due, their timers run, and a SACK's duplicates are
 //!   forgotten, as are the responses of a RE-CONFIG. What doesn't fit stays due, and nothing goes out after it. User data goes out at one place:
 //!   `fill_rest`. A request to reset streams is made first, once it may be, and is undone if the packet can't be built.
 //! - **The parts.** What the sender and the receiver do in the format agreed on is the step of both views (`Traffic`: every call); what is due changes as
@@ -75,6 +76,7 @@ mod traffic;
 mod user;
 
 pub use build::Built;
+pub use build::sendings::Sendings;
 pub use machine::Machine;
 pub use state::life::Opened;
 pub use state::stage::{Stage, Tags};

@@ -57,6 +57,8 @@ impl Machine {
     fn fresh(alloc: Global, config: Config, role: Role, stands: Unjoined) -> Machine
         ensures { (r : model.Role) → RoleStands role r → MachineStands result (fresh_end config r (phase_unjoined stands)) }
     {
+        // By the clause of `limit` its options are plain.
+        let _limit = config.limit();
         Machine {
             alloc,
             config,

@@ -10,3 +10,4 @@ pub mod pacing;
 pub mod passing;
 pub mod reconfiguring;
 pub mod reporting;
+pub mod responding;

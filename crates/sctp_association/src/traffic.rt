@@ -2,6 +2,7 @@
 
 pub mod acknowledging;
 pub mod buffers;
+pub mod missed;
 pub mod pacing;
 pub mod parts;
 pub mod receiving;
@@ -13,6 +14,7 @@ ghost use Rattle.sctp_model.specs.messages.Format.{Format};
 ghost use Rattle.sctp_model.specs.sender.SenderView.{SenderView, fresh_sender};
 ghost use Rattle.sctp_model.specs.receiver.ReceiverView.{ReceiverView, fresh_receiver};
 ghost use Rattle.sctp_model.specs.end.EndView.{format_for};
+ghost use Rattle.sctp_send.specs.SenderStands.{plain_limits};
 ghost use Rattle.sctp_association.specs.TrafficStands.{DirectionsStand, TrafficStands};
 
 use sctp_framing::{DataFraming, Framing, IDataFraming};
@@ -27,6 +29,8 @@ use std::alloc::Global;
 pub(crate) struct Directions<F: Framing> {
     pub(crate) sender: Sender<F>,
     pub(crate) receiver: Receiver<F>,
+    /// The indexes that the last packet retransmitted, or that the last SACK took back: a list that is kept, so that none is allocated for each.
+    pub(crate) indexes: Vec<u64>,
 }
 
 /// Sender and receiver, in the format that both endpoints agreed on: DATA, or I-DATA (RFC 8260, 2.2.1).
@@ -56,8 +60,8 @@ impl Traffic {
     ) -> Result<Traffic, NoMemory>
         requires some { 0 < sizes.fragment }
         requires short { sizes.fragment ≤ 1400 }
-        ensures { IfOk result (λ t. TrafficStands t (format_for terms.interleave) (fresh_sender terms.own_tsn terms.outbound sizes.fragment peer_rwnd terms.partial)
-            (fresh_receiver terms.peer_tsn terms.inbound sizes.buffer)) }
+        ensures { IfOk result (λ t. TrafficStands t (format_for terms.interleave) (fresh_sender terms.own_tsn terms.outbound sizes.fragment peer_rwnd terms.partial plain_limits)
+            (fresh_receiver terms.peer_tsn terms.inbound sizes.buffer 0)) }
     {
         if terms.interleave {
             return Ok(Traffic::Interleaved(begun_in(alloc, terms, sizes, peer_rwnd)?));
@@ -85,8 +89,8 @@ fn begun_in<F: Framing>(
 ) -> Result<Directions<F>, NoMemory>
     requires some { 0 < sizes.fragment }
     requires short { sizes.fragment ≤ 1400 }
-    ensures { IfOk result (λ d. DirectionsStand F.format d (fresh_sender terms.own_tsn terms.outbound sizes.fragment peer_rwnd terms.partial)
-        (fresh_receiver terms.peer_tsn terms.inbound sizes.buffer)) }
+    ensures { IfOk result (λ d. DirectionsStand F.format d (fresh_sender terms.own_tsn terms.outbound sizes.fragment peer_rwnd terms.partial plain_limits)
+        (fresh_receiver terms.peer_tsn terms.inbound sizes.buffer 0)) }
 {
     let sender = Sender::new(
         alloc,
@@ -97,5 +101,9 @@ fn begun_in<F: Framing>(
         terms.partial,
     )?;
     let receiver = Receiver::new(alloc, terms.peer_tsn, terms.inbound, sizes.buffer)?;
-    Ok(Directions { sender, receiver })
+    Ok(Directions {
+        sender,
+        receiver,
+        indexes: Vec::new(alloc),
+    })
 }

@@ -2,7 +2,7 @@
 use Rattle.std.specs.Prelude.{◌≡◌, ℕ, ◌<◌, ◌⊎◌, ◌+◌, ◌==◌, nat_le, bit_and, replicate, not, ◌&&◌, ◌||◌, if◌then◌else◌, Bool, true, false, List, [], ◌∷◌, Option, Some, None}
 use Rattle.std.specs.Str.{bytes_eq}
 use Rattle.sctp_model.specs.end.EndView.{Configuration, Draw}
-use Rattle.sctp_model.specs.end.Configured.{ConfigurationFault, configuration_fault}
+use Rattle.sctp_model.specs.end.Configured.{plain_configuration, ConfigurationFault, configuration_fault}
 use Rattle.sctp_model.specs.numbers.Limits.{LEAST_WAIT}
 use Rattle.sctp_terms.specs.Meanings.{config_code}
 use Rattle.sctp_c.specs.declared.codes.TheConstants.{OK, NO_MEMORY, MISUSE, BAD_RESERVED, BAD_CONFIG, ZERO_KEY}
@@ -35,14 +35,7 @@ least_of n = if n == 0 then LEAST_WAIT else n
 
 -- the configuration of these numbers
 abbrev pub asked_by : SctpConfig → Configuration
-asked_by c = record {
-  own_port = c.own_port;
-  peer_port = c.peer_port;
-  limit = c.packet_limit;
-  fragment = c.fragment;
-  buffer = c.buffer;
-  outbound = c.outbound;
-  inbound = c.inbound;
+asked_by c = record (plain_configuration c.own_port c.peer_port c.packet_limit c.fragment c.buffer c.outbound c.inbound) {
   interleave = c.interleave;
   partial = c.partial;
   delay = c.delay;

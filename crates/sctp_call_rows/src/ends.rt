@@ -1,6 +1,7 @@
 //! The sender and the receiver of a case, and the calls on them.
 
 use crate::call::Call;
+use crate::pacing::pace;
 use crate::parts::{bytes_of, skips_of};
 use crate::plain::answer;
 use crate::receiving::{carry, data, leap, readable, receiving, rise, skip, taken, trim};
@@ -155,6 +156,7 @@ fn sending_call<F: Framing>(
         Call::Fill { limit, recycled } => fill(alloc, sender, packets, limit, recycled, out),
         Call::Forward { room, limit } => forward(alloc, sender, packets, room, limit, out),
         Call::Sack { tsn, rwnd, blocks } => sack(alloc, sender, tsn, rwnd, blocks, out),
+        Call::Pace(asked) => pace(alloc, sender, asked, out),
         _ => send(sender, call, out),
     }
 }

@@ -89,7 +89,8 @@ pub fn fill<F: Framing>(
     out: &mut String,
 ) -> Result<()> {
     let mut packet = PacketWriter::new(alloc, limit, 1, 2, 3);
-    let filled = sender.fill(&mut packet)?;
+    let mut again = Vec::new(alloc);
+    let filled = sender.fill(&mut again, &mut packet)?;
     match packet.finish() {
         Some(bytes) => packets.keep(alloc, bytes, out)?,
         None => write!(out, "nothing")?,

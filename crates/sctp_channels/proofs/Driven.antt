@@ -30,7 +30,7 @@ use Rattle.sctp_channels.specs.Streams.{unused, with_channel, Table, fresh_table
 use Rattle.sctp_channels.specs.Told as told
 use Rattle.sctp_channels.specs.Told.{Closed, BufferedAmountLow, Report}
 use Rattle.sctp_channels.specs.Settling.{without_due}
-use Rattle.sctp_channels.specs.Events.{Reported, quiet, reports_closed, reports_low, reports_taken, reports_waiting, reports_message, next_report, with_next, with_reset}
+use Rattle.sctp_channels.specs.Events.{Reported, quiet, reports_closed, reports_low, reports_taken, reports_waiting, reports_message, next_report, with_left_over, with_reset}
 use Rattle.sctp_channels.specs.Promise.{HasPlace, IsOfChannels}
 use Rattle.sctp_channels.specs.Driven.{is_call, closes, Moves, Elsewhere, Fails, Takes, Notes, NotesNone, Opens, Answers, Says, Refuses, IsNotOpen, Closes, Resets, ResetsNone, Driven, Rests, Goes, Tells, Agrees, Sets, Frees, IsClosedIn, IsPartedThere, content_in, contents_on, AreOf, ChannelsAreFaithful}
 use Rattle.sctp_channels.proofs.SpanLemmas.{unused_there}
@@ -103,7 +103,7 @@ quiet_sent y (Send s c) (Some (ResetThere a b)) off = refl
 quiet_sent y (Send s c) (Some NoReset) off = refl
 quiet_sent y (Send s c) (Some AbortTooLong) off = refl
 
-quiet_taken : (y : Side) (n : ℕ) (e : Event) (o : Option Outcome) → is_call y e ≡ false → taken_by y n e o ≡ []
+pub quiet_taken : (y : Side) (n : ℕ) (e : Event) (o : Option Outcome) → is_call y e ≡ false → taken_by y n e o ≡ []
 quiet_taken y n (OpenBoth a b) o off = refl
 quiet_taken y n (Later s m) o off = refl
 quiet_taken y n (Moment s) o off = refl
@@ -298,7 +298,7 @@ module _ (y : Side) (n : ℕ) where
   move_takes v u x e o rs z (Resets s _ is by) = inl refl
   move_takes v u x e o rs z (ResetsNone s _ by) = inl refl
 
-  driven_takes : (w : World) (x : Table) (es : List Event) (os : List (Option Outcome)) (vs : List World) (rs : List Report) (u : Table) → Driven y w x es os vs rs u → TakesToldOnly y n es os vs
+  pub driven_takes : (w : World) (x : Table) (es : List Event) (os : List (Option Outcome)) (vs : List World) (rs : List Report) (u : Table) → Driven y w x es os vs rs u → TakesToldOnly y n es os vs
   driven_takes w x es os vs rs u (Rests _ _) = tt
   driven_takes w x es os vs rs u (Goes _ v _ z _ e o more others worlds now next move on) =
       (move_takes (end_of w y) (end_of v y) x e o now z move, driven_takes v z more others worlds next u on)
@@ -318,7 +318,7 @@ fine_then w [] [] (v ∷ vs) passes fresh sound = absurd passes
 fine_then w (e ∷ es) [] vs passes fresh sound = absurd passes
 fine_then w (e ∷ es) (o ∷ os) [] passes fresh sound = absurd passes
 
-taken_both : (y : Side) (n : ℕ) (es : List Event) (os : List (Option Outcome)) (more : List Event) (others : List (Option Outcome)) → length os ≡ length es →
+pub taken_both : (y : Side) (n : ℕ) (es : List Event) (os : List (Option Outcome)) (more : List Event) (others : List (Option Outcome)) → length os ≡ length es →
     taken y n (es ++ more) (os ++ others) ≡ taken y n es os ++ taken y n more others
 taken_both y n [] [] more others same = refl
 taken_both y n (e ∷ es) (o ∷ os) more others same =
@@ -449,7 +449,7 @@ module _ (y : Side) (n : ℕ) where
   driven_mark es os w x more others vs rs u (Sets _ _ _ _ _ _ _ s k may on) passes fresh sound count same m =
       driven_mark es os w (threshold_set (end_of w y) s k x) more others vs rs u on passes fresh sound count same m
   driven_mark es os w x more others vs rs u (Frees _ _ _ _ _ _ _ s gone on) passes fresh sound count same m =
-      driven_mark es os w (with_next (end_of w y) x s) more others vs rs u on passes fresh sound count same (next_marked n (ToldAt es os) (length ((end_of w y).receiver.taken n)) x m (end_of w y) s)
+      driven_mark es os w (with_left_over x s) more others vs rs u on passes fresh sound count same (next_marked n (ToldAt es os) (length ((end_of w y).receiver.taken n)) x m s)
 
 -- ---- the law
 

@@ -1,6 +1,6 @@
 -- A stream is free behind an event only if that tells what is ignored.
 use Rattle.std.proofs.Common.{ℕ, Bool, true, false, List, length, Option, Some, None, subst, if◌then◌else◌}
-use Rattle.std.specs.Prelude.{option_map, is_some}
+use Rattle.std.specs.Prelude.{is_some}
 use Rattle.sctp_model.specs.end.EndView.{EndView, ended_of}
 use Rattle.sctp_channels.specs.declared.channels.Channels.{Channels}
 use Rattle.sctp_channels.specs.declared.event.Event.{Event}

@@ -11,7 +11,7 @@ use Rattle.sctp_channels.specs.Meanings.{content_bytes, event_meaning}
 use Rattle.sctp_channels.specs.Settling.{is_closed}
 use Rattle.sctp_model.specs.receiver.SackMade.{first_taken}
 use Rattle.sctp_model.specs.end.EndView.{EndView}
-use Rattle.sctp_model.specs.end.UserCalls.{UserTakes}
+use Rattle.sctp_model.specs.end.UserCalls.{updating, UserTakes}
 use Rattle.sctp_dcep.specs.Content.{Content}
 use Rattle.sctp_dcep.specs.Dcep.{Parameters, Control, Opens, Acknowledges, Faulty}
 use Rattle.sctp_channels.specs.declared.channels.Channels.{Channels}
@@ -25,7 +25,7 @@ use Rattle.sctp_channels.specs.Told.{Told, Incoming, Opened, WrongHalf, NoWayBac
 use Rattle.sctp_channels.specs.Coming.{After, tells, refuses, begins, with_ack, control_comes, content_comes, other_comes, Said, OfDcep, OfChannel, said_in, comes_saying, comes, one_taken, heard}
 use Rattle.sctp_channels.specs.Buffered.{is_low}
 use Rattle.sctp_channels.specs.Calling.{outgoing}
-use Rattle.sctp_channels.specs.Events.{Reported, one_on, reports_taken, reports_waiting, reports_after, reports_message, turn, reports_turn, reports_second, reports_first, next_report, freed_by, with_freed}
+use Rattle.sctp_channels.specs.Events.{Reported, first_taken_at, one_on, reports_taken, reports_waiting, reports_after, reports_message, turn, reports_turn, reports_second, reports_first, next_report, freed_by, with_freed}
 use Rattle.sctp_channels.specs.ChannelsStand.{ChannelsStand}
 use Rattle.sctp_channels.specs.Telling.{Tells}
 
@@ -140,12 +140,12 @@ told_waiting v x s h rest a c waits came stays stands =
 -- one that is taken, and its stream free behind it
 pub told_taken : (v : EndView) (x : Table) (s : ℕ) (h : Handed) (rest : List Handed) (a : After) (e : Event) (c : Channels) → v.receiver.waiting s ≡ h ∷ rest
     → a ≡ comes x.role (outgoing v x) s h (stream_at x s) → a.taken ≡ true → event_meaning e ≡ record { stream = s; told = a.told }
-    → ChannelsStand c (record v { receiver = first_taken v.receiver s h rest }) (freed_by a.told s (record v { receiver = first_taken v.receiver s h rest }) (record (with_stream x s (one_taken a.stream)) { next = one_on s }))
+    → ChannelsStand c (first_taken_at v s h rest) (freed_by a.told s (first_taken_at v s h rest) (record (with_stream x s (one_taken a.stream)) { next = one_on s }))
     → Tells (with_freed (reports_message s (v.receiver.waiting s) v x)) (Some e) c
 told_taken v x s h rest a e c waits came goes says stands =
     let after : reports_after s h rest a v x ≡ reports_taken s h rest a v x = ap (λ (b : Bool). if b then reports_taken s h rest a v x else reports_waiting s a v x) goes in
     let same : heard a ≡ one_taken a.stream = ap (λ (b : Bool). if b then one_taken a.stream else a.stream) goes in
-    let u : EndView = record v { receiver = first_taken v.receiver s h rest } in
+    let u : EndView = first_taken_at v s h rest in
     subst (λ (r : Reported). Tells (with_freed r) (Some e) c) (sym (reported v x s h rest a waits came ∙ after)) (record {
       report = ap Some says;
       stands = subst (λ (y : Stream). ChannelsStand c u (freed_by a.told s u (record (with_stream x s y) { next = one_on s }))) (sym same) stands;
@@ -153,14 +153,14 @@ told_taken v x s h rest a e c waits came goes says stands =
 
 -- the message that the user takes is the one that waits
 pub took : (v t : EndView) (s : ℕ) (o : Option Message) (h : Handed) (rest : List Handed) → UserTakes v s (option_map handed_of o) t → v.receiver.waiting s ≡ h ∷ rest
-    → (content_bytes o ≡ h.bytes) × (t ≡ record v { receiver = first_taken v.receiver s h rest })
+    → (content_bytes o ≡ h.bytes) × (t ≡ first_taken_at v s h rest)
 took v t s None h rest takes waits = let empty = takes.takes.0 in absurd (cc)
 took v t s (Some m) h rest takes waits =
     let there = takes.takes.1 in
     let first : handed_of m ≡ h = cc in
     let more : takes.takes.0 ≡ rest = cc in (
       ap (λ (k : Handed). k.bytes) first,
-      takes.leaves ∙ (ap (λ (r : ReceiverView). record v { receiver = r }) (takes.takes.2
+      takes.leaves ∙ (ap (λ (r : ReceiverView). updating (record v { receiver = r })) (takes.takes.2
           ∙ (ap (λ (k : Handed). first_taken v.receiver s k takes.takes.0) first ∙ ap (λ (ks : List Handed). first_taken v.receiver s h ks) more))),
     )
 

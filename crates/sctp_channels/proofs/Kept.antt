@@ -3,17 +3,16 @@ use Rattle.std.proofs.Common.{◌≡◌, ◌⊎◌, ℕ, suc, ◌+◌, ◌-◌, 
 use Rattle.std.specs.Prelude.{max}
 use Rattle.std.proofs.lemmas.Bool.{and_parts, cases_lt}
 use Rattle.sctp_model.specs.receiver.ReceiverView.{Handed}
-use Rattle.sctp_model.specs.receiver.SackMade.{first_taken}
 use Rattle.sctp_model.specs.end.EndView.{EndView, Ended, ended_of}
 use Rattle.sctp_channels.specs.declared.stream.Resets.{Resets}
 use Rattle.sctp_channels.specs.declared.stream.Resets.TheVariants.{One, Two}
 use Rattle.sctp_channels.specs.declared.stream.Stream.{Stream}
-use Rattle.sctp_channels.specs.Streams.{unused, is_reset, is_reset_again, is_drained, Table, stream_at, with_stream, with_none}
+use Rattle.sctp_channels.specs.Streams.{unused, is_reset, is_reset_again, is_drained, Table, stream_at, with_stream}
 use Rattle.sctp_channels.specs.Told.{Closed, BufferedAmountLow}
 use Rattle.sctp_channels.specs.Coming.{After, comes, leaving, one_taken, heard, peer_resets, left_over}
 use Rattle.sctp_channels.specs.Calling.{outgoing}
 use Rattle.sctp_channels.specs.Buffered.{with_low_told}
-use Rattle.sctp_channels.specs.Events.{Reported, reports_closed, reports_taken, reports_waiting, reports_after, reports_message, is_empty, is_readable, next_report, with_left_over, with_next, with_reset, one_on}
+use Rattle.sctp_channels.specs.Events.{Reported, first_taken_at, reports_closed, reports_taken, reports_waiting, reports_after, reports_message, is_empty, is_readable, next_report, with_left_over, with_reset, one_on}
 use Rattle.sctp_channels.specs.Promise.{HasPlace, HasNextPlace, SecondResetsAreKept}
 use Rattle.sctp_channels.proofs.Promised.{Keeps, comes_keeps, comes_open, left_is, report_cases, one_report, low_is_open, beyond, at_same, at_other, same_or_not, within, again_noted}
 use Rattle.sctp_channels.proofs.Marks.{again_is, left_some, own_taken, other_taken}
@@ -62,13 +61,9 @@ module _ (v : EndView) (x : Table) (s n : ℕ) (p : HasNextPlace v x s n) where
   elsewhere_closed : (i : ℕ) → KeepsNext (reports_closed i v x)
   elsewhere_closed i unclosed = go (same_or_not i s)
     where
-      by_end : (s ≡ i → ⊥) → (b : Bool) → HasNextPlace v (if b then with_none x i else with_left_over x i) s n
-      by_end ne true = untouched v (with_none x i) (at_other x i s unused ne) refl
-      by_end ne false = untouched v (with_left_over x i) (at_other x i s (left_over (stream_at x i)) ne) refl
-
-      go : (i ≡ s) ⊎ (s ≡ i → ⊥) → HasNextPlace v (with_next v x i) s n
+      go : (i ≡ s) ⊎ (s ≡ i → ⊥) → HasNextPlace v (with_left_over x i) s n
       go (inl e) = absurd (unclosed (ap (λ (k : ℕ). Some (record { stream = k; told = Closed })) e))
-      go (inr ne) = by_end ne (is_some (ended_of v.phase))
+      go (inr ne) = untouched v (with_left_over x i) (at_other x i s (left_over (stream_at x i)) ne) refl
 
   abbrev after : (i : ℕ) → Handed → After
   after i h = comes x.role (outgoing v x) i h (stream_at x i)
@@ -96,7 +91,7 @@ module _ (v : EndView) (x : Table) (s n : ℕ) (p : HasNextPlace v x s n) where
           let k = left_is (y.left - 1) z in
           let some = left_some (stream_at x s) first off in
           let l = keeps.left in let a = keeps.again in let sum = p.place in let order = p.behind in let kl = k.0 in let ka = k.2 in
-          like (record v { receiver = first_taken v.receiver s h rest }) (record (with_stream x s (heard (after s h))) { next = one_on s }) (leaving (y.left - 1) z) (suc (length (v.receiver.taken s)))
+          like (first_taken_at v s h rest) (record (with_stream x s (heard (after s h))) { next = one_on s }) (leaving (y.left - 1) z) (suc (length (v.receiver.taken s)))
           (at_same x s (heard (after s h)) (there_is v x s n p) ∙ marked) (own_taken v.receiver.taken s h)
           (ap (λ (r : Resets). is_reset_again r) k.1 ∙ ap (λ (r : Resets). is_reset_again r) keeps.resets ∙ p.is_reset_again)
           (omega (arith, ka, l, a, some, sum, order)) (omega (arith, kl, ka, l, a, some, order))
@@ -128,9 +123,8 @@ module _ (v : EndView) (x : Table) (s n : ℕ) (p : HasNextPlace v x s n) where
   abbrev IsNext : Reported → Type 0
   IsNext r = r.report ≡ Some (record { stream = s; told = Closed }) → HasPlace r.view r.table s n
 
-  by_left : (b : Bool) → is_some (ended_of v.phase) ≡ b → b ≡ false → HasPlace v (if b then with_none x s else with_left_over x s) s n
-  by_left true over none = absurd (cc none)
-  by_left false over none =
+  own_next : HasPlace v (with_left_over x s) s n
+  own_next =
       let y = stream_at x s in
       let z : Stream = record unused { resets = One } in
       let is : stream_at (with_left_over x s) s ≡ leaving y.again z = at_same x s (left_over y) (there_is v x s n p) ∙ ap (λ (b : Bool). if b then peer_resets y.again unused else unused) p.is_reset_again in
@@ -140,10 +134,10 @@ module _ (v : EndView) (x : Table) (s n : ℕ) (p : HasNextPlace v x s n) where
         place = ap (λ (q : Stream). length (v.receiver.taken s) + q.left) is ∙ ap (λ (i : ℕ). length (v.receiver.taken s) + i) k.0 ∙ p.place;
       }
 
-  closed_next : ended_of v.phase ≡ None → (i : ℕ) → IsNext (reports_closed i v x)
-  closed_next alive i is =
+  closed_next : (i : ℕ) → IsNext (reports_closed i v x)
+  closed_next i is =
       let e : i ≡ s = (one_report i s Closed Closed is).0 in
-      subst (λ (k : ℕ). HasPlace v (with_next v x k) s n) (sym e) (by_left (is_some (ended_of v.phase)) refl (ap (λ (o : Option Ended). is_some o) alive))
+      subst (λ (k : ℕ). HasPlace v (with_left_over x k) s n) (sym e) own_next
 
   by_taken : (i : ℕ) (h : Handed) (rest : List Handed) (a : After) → (a.told ≡ Closed → ⊥) → (b : Bool) → IsNext (if b then reports_taken i h rest a v x else reports_waiting i a v x)
   by_taken i h rest a unclosed true is = absurd (unclosed (one_report i s a.told Closed is).1)
@@ -153,10 +147,10 @@ module _ (v : EndView) (x : Table) (s n : ℕ) (p : HasNextPlace v x s n) where
   by_waiting i [] is = absurd (cc)
   by_waiting i (h ∷ rest) is = by_taken i h rest (after i h) (comes_open x.role (outgoing v x) i h (stream_at x i)) (after i h).taken is
 
-  becomes : ended_of v.phase ≡ None → IsNext (next_report v x)
-  becomes alive =
-      report_cases IsNext v x (λ i on. closed_next alive i) (λ i is. absurd (low_is_open (one_report i s BufferedAmountLow Closed is).1)) (λ i on. by_waiting i (v.receiver.waiting i)) (λ is. absurd (cc))
-      (λ i on. closed_next alive i)
+  becomes : IsNext (next_report v x)
+  becomes =
+      report_cases IsNext v x (λ i on. closed_next i) (λ i is. absurd (low_is_open (one_report i s BufferedAmountLow Closed is).1)) (λ i on. by_waiting i (v.receiver.waiting i)) (λ is. absurd (cc))
+      (λ i on. closed_next i)
 
 pub second_resets_are_kept : SecondResetsAreKept
-second_resets_are_kept = record { noted = noted; kept = λ v x s n p unclosed. stays v x s n p unclosed; next = λ v x s n p alive is. becomes v x s n p alive is }
+second_resets_are_kept = record { noted = noted; kept = λ v x s n p unclosed. stays v x s n p unclosed; next = λ v x s n p is. becomes v x s n p is }

@@ -22,6 +22,7 @@ pub mod NextChannel
 pub mod Driven
 pub mod AllNoted
 pub mod StreamsThere
+pub mod HeardOnce
 pub mod MadeLemmas
 pub mod MadeRuns
 pub mod MadeSettled
@@ -30,4 +31,10 @@ pub mod MadePackets
 pub mod MadeCalls
 pub mod MadePassed
 pub mod MadeEvents
+pub mod Closings
+pub mod Places
+pub mod Keeping
+pub mod ToldPlaces
+pub mod OneChannel
+pub mod TwoChannels
 pub mod UpcomingLemmas

@@ -1,5 +1,5 @@
 -- What the user's calls make: an OPEN, the ACK that is due and the content, a reset; and what calls make that are passed on.
-use Rattle.std.proofs.Common.{◌≡◌, ◌⊎◌, ℕ, ◌<◌, ◌≤◌, true, false, [], length, Some, Ok, Err, inl, inr, refl, sym, subst, ap, ◌∙◌, if◌then◌else◌}
+use Rattle.std.proofs.Common.{◌≡◌, ◌⊎◌, ℕ, ◌<◌, ◌≤◌, true, false, [], length, Some, Ok, Err, inl, inr, refl, arith, sym, subst, ap, ◌∙◌, if◌then◌else◌}
 use Rattle.std.proofs.lemmas.Bool.{cases_lt}
 use Rattle.sctp_model.specs.end.EndView.{EndView}
 use Rattle.sctp_model.specs.end.UserCalls.{SendAnswer, Ticket, Refused, NotOpen, send_answer, send_leaves, Begun, reset_leaves}
@@ -31,7 +31,7 @@ use Rattle.sctp_channels.proofs.MadeRuns.{noted_same}
 -- ---- a call that changed nothing
 
 pub nothing_is_made : NothingIsMade
-nothing_is_made y w x c stands = record { view = end_of w y; table = x; makes = makes_nothing y w x; stands = stands; noted = λ r all. all }
+nothing_is_made y w x c stands = record { view = end_of w y; table = x; makes = makes_nothing y w x; stands = stands; few = omega arith; noted = λ r all. all }
 
 -- ---- open
 
@@ -41,7 +41,8 @@ opens_are_made y w x p o (Ok s) c (ticket, choice, answers, stands) = record {
   table = with_stream x s (with_channel state.Connecting p.ordered p.reliability (stream_at x s));
   makes = makes_send y w x (open_call s p) (Ticket ticket.0) answers _ (Opens s ticket.0 p o choice);
   stands = stands;
-  noted = λ r all. all;
+  few = omega arith;
+  noted = λ r all. noted_same (end_of w y) (sent_view (end_of w y) (open_call s p) (Ok ticket)) refl all;
 }
 opens_are_made y w x p o (Err (opening.Refused why)) c (s, choice, refused, stands) = nothing_is_made y w x c stands
 opens_are_made y w x p o (Err opening.TooLong) c (choice, stands) = nothing_is_made y w x c stands
@@ -57,6 +58,7 @@ negotiated_are_made y w x ordered l s (Ok _) c (choice, stands) = record {
   table = with_stream x s (with_channel state.Open ordered l (stream_at x s));
   makes = makes_still y w x [] _ (Agrees w x _ [] [] [] [] s s ordered l choice (Rests w _));
   stands = stands;
+  few = omega arith;
   noted = λ r all. all;
 }
 
@@ -135,6 +137,7 @@ sends_are_made y w x now s k (Ok ticket) c (may, free, answers, stands) =
       table = with_look u s (with_stream x s t.stream);
       makes = content_made y w x s now k t a may ticket.0 answers;
       stands = stands;
+      few = omega arith;
       noted = λ r all. noted_same (end_of w y) u a.receiver all;
     }
 sends_are_made y w x now s k (Err sending.NoChannel) c (may, stands) = nothing_is_made y w x c stands
@@ -142,7 +145,7 @@ sends_are_made y w x now s k (Err (sending.Refused why)) c (may, inl (refused, s
 sends_are_made y w x now s k (Err (sending.Refused why)) c (may, inr (free, refused, stands)) =
     let t = with_ack_sent (end_of w y) s (stream_at x s) in
     let a = ack_made y w x s free in
-    record { view = t.view; table = with_stream x s t.stream; makes = a.makes; stands = stands; noted = λ r all. noted_same (end_of w y) t.view a.receiver all }
+    record { view = t.view; table = with_stream x s t.stream; makes = a.makes; stands = stands; few = omega arith; noted = λ r all. noted_same (end_of w y) t.view a.receiver all }
 
 -- ---- close
 
@@ -152,7 +155,8 @@ closes_are_made y w x s (Ok _) c (may, answers, stands) = record {
   table = with_stream x s (close_kept (stream_at x s));
   makes = makes_reset y w x s Begun answers _ (Closes s may);
   stands = stands;
-  noted = λ r all. all;
+  few = omega arith;
+  noted = λ r all. noted_same (end_of w y) (reset_leaves Begun (end_of w y) s) refl all;
 }
 closes_are_made y w x s (Err closing.NoChannel) c (may, stands) = nothing_is_made y w x c stands
 closes_are_made y w x s (Err (closing.Refused why)) c (may, answers, stands) = nothing_is_made y w x c stands
@@ -165,6 +169,7 @@ thresholds_are_made y w x s n (Ok _) c (may, stands) = record {
   table = threshold_set (end_of w y) s n x;
   makes = makes_still y w x [] _ (Sets w x _ [] [] [] [] s n may (Rests w _));
   stands = stands;
+  few = omega arith;
   noted = λ r all. all;
 }
 thresholds_are_made y w x s n (Err threshold.NoChannel) c (may, stands) = nothing_is_made y w x c stands

@@ -16,7 +16,7 @@ use Rattle.sctp_channels.specs.Streams.{Table, stream_at}
 use Rattle.sctp_channels.specs.Told.{Report}
 use Rattle.sctp_channels.specs.Coming.{After, comes}
 use Rattle.sctp_channels.specs.Calling.{outgoing}
-use Rattle.sctp_channels.specs.Events.{Reported, reports_taken, reports_waiting, reports_message, next_report, freed_behind, with_freed}
+use Rattle.sctp_channels.specs.Events.{Reported, first_taken_at, reports_taken, reports_waiting, reports_message, next_report, freed_behind, with_freed}
 use Rattle.sctp_channels.specs.Meanings.{event_meaning}
 use Rattle.sctp_channels.specs.ChannelsStand.{ChannelsStand}
 use Rattle.sctp_channels.specs.Telling.{Tells}
@@ -36,7 +36,7 @@ record TakesFirst (v : EndView) (r : Reported) : Type 0 where
   message : Handed
   rest : List Handed
   waits : v.receiver.waiting stream ≡ message ∷ rest
-  view : r.view ≡ record v { receiver = first_taken v.receiver stream message rest }
+  view : r.view ≡ first_taken_at v stream message rest
 
 -- Nothing is told, and nothing changed; or something is, with the endpoint as it was, or with the message taken.
 data Kinds (v : EndView) (x : Table) (r : Reported) : Type 0 where
@@ -71,12 +71,12 @@ reports_none None o is none = refl
 reports_none (Some e) o is none = absurd (let both = is ∙ none in cc both)
 
 -- a message less waits
-still_noted : (v : EndView) (s : ℕ) (h : Handed) (rest : List Handed) → v.receiver.waiting s ≡ h ∷ rest → IsAllNoted v → IsAllNoted (record v { receiver = first_taken v.receiver s h rest })
-still_noted v s h rest waits all i some = all i (λ none. some (go (i == s) refl none))
+still_noted : (v : EndView) (s : ℕ) (h : Handed) (rest : List Handed) → v.receiver.waiting s ≡ h ∷ rest → IsAllNoted v → IsAllNoted (first_taken_at v s h rest)
+still_noted v s h rest waits all = record { there = all.there; waiting = λ i some. all.waiting i (λ none. some (go i (i == s) refl none)) }
   where
-    go : (b : Bool) → (i == s) ≡ b → v.receiver.waiting i ≡ [] → (if b then rest else v.receiver.waiting i) ≡ []
-    go false is none = none
-    go true is none = absurd (let e : i ≡ s = grind (arith, nat_tests, is) in let there = ap v.receiver.waiting e in cc (sym none ∙ there ∙ waits))
+    go : (i : ℕ) (b : Bool) → (i == s) ≡ b → v.receiver.waiting i ≡ [] → (if b then rest else v.receiver.waiting i) ≡ []
+    go i false is none = none
+    go i true is none = absurd (let e : i ≡ s = grind (arith, nat_tests, is) in let there = ap v.receiver.waiting e in cc (sym none ∙ there ∙ waits))
 
 module _ (y : Side) (w : World) (x : Table) where
   abbrev v : EndView
@@ -92,7 +92,7 @@ module _ (y : Side) (w : World) (x : Table) where
   taken_made all q is t =
       makes_one y w x [] (Take y t.stream) (Some (Message t.message)) _ r.view None (q ∷ []) r.table (own_call y (Take y t.stream) (own_side y)) (at_end w y r.view)
       (steps.TakesOne y t.stream (Some t.message) r.view (record { receiver = first_taken v.receiver t.stream t.message t.rest; takes = (t.rest, t.waits, refl); leaves = t.view }))
-      (Takes t.stream t.message q is refl (subst (λ (u : EndView). u.receiver.resets.told t.stream ≡ None) (sym t.view) (all t.stream (λ none. absurd (cc (sym none ∙ t.waits)))))) (other_side y)
+      (Takes t.stream t.message q is refl (subst (λ (u : EndView). u.receiver.resets.told t.stream ≡ None) (sym t.view) (all.waiting t.stream (λ none. absurd (cc (sym none ∙ t.waits)))))) (other_side y)
 
   made : (e : Option declared.Event) (c : Channels) → IsAllNoted v → Tells (with_freed r) e c → Kinds v x r → IsMade y w x [] (reports_of e) [] c
   made e c all tells (IsQuiet none view table) = record {
@@ -100,6 +100,7 @@ module _ (y : Side) (w : World) (x : Table) where
     table = x;
     makes = subst (λ (rs : List Report). Makes y w x [] rs [] v x) (sym (reports_none e r.report tells.report none)) (makes_nothing y w x);
     stands = subst (λ (u : EndView). ChannelsStand c u x) view (subst (λ (q : Table). ChannelsStand c r.view q) table (subst (λ (o : Option Report). ChannelsStand c r.view (freed_behind o r.view r.table)) none tells.stands));
+    few = omega arith;
     noted = λ reached noted. noted;
   }
   made e c all tells (IsTold q is view) = record {
@@ -107,6 +108,7 @@ module _ (y : Side) (w : World) (x : Table) where
     table = freed_behind r.report v r.table;
     makes = subst (λ (rs : List Report). Makes y w x [] rs [] v (freed_behind r.report v r.table)) (sym (reports_are e r.report tells.report q is)) (makes_freed r.report y w x q v r.table (told_made q is view));
     stands = subst (λ (u : EndView). ChannelsStand c u (freed_behind r.report u r.table)) view tells.stands;
+    few = omega arith;
     noted = λ reached noted. noted;
   }
   made e c all tells (IsTaken q is t) = record {
@@ -115,6 +117,7 @@ module _ (y : Side) (w : World) (x : Table) where
     makes = subst (λ (rs : List Report). Makes y w x [] rs [] r.view (freed_behind r.report r.view r.table)) (sym (reports_are e r.report tells.report q is))
         (makes_freed r.report y w x q r.view r.table (taken_made all q is t));
     stands = tells.stands;
+    few = omega arith;
     noted = λ reached noted. subst IsAllNoted (sym t.view) (still_noted v t.stream t.message t.rest t.waits noted);
   }
 

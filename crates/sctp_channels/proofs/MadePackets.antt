@@ -1,5 +1,5 @@
 -- What packets make: what is due is queued before one is sent, and resets are noted after one is received.
-use Rattle.std.proofs.Common.{◌≡◌, ℕ, zero, suc, ◌<◌, false, List, [], ◌∷◌, length, take, Option, Some, None, Ok, Err, refl, sym, subst, ap, ◌∙◌}
+use Rattle.std.proofs.Common.{◌≡◌, ℕ, zero, suc, ◌<◌, false, List, [], ◌∷◌, length, take, Option, Some, None, Ok, Err, refl, arith, sym, subst, ap, ◌∙◌}
 use Rattle.std.proofs.lemmas.List.{append-nil}
 use Rattle.sctp_model.specs.wire.Chunk.{ChunkMeaning}
 use Rattle.sctp_model.specs.wire.Packet.{Packet}
@@ -75,6 +75,7 @@ transmits_made y w x (Ok None) c ((t, b, stands), is) = (
     table = (settled_all (end_of w y) x).table;
     makes = none_made y w x t b;
     stands = is t stands;
+    few = omega arith;
     noted = λ r all. still_noted y w x [] t b all;
   },
 )
@@ -91,6 +92,7 @@ transmits_made y w x (Ok (Some sent)) c (s, is) = go s.chunks s.some s.builds s.
         table = (settled_all (end_of w y) x).table;
         makes = some_made y w x k ks s.after b;
         stands = is s.after s.stands;
+        few = omega arith;
         noted = λ r all. still_noted y w x (k ∷ ks) s.after b all;
       },
     )
@@ -102,6 +104,7 @@ transmits_made y w x (Err why) c (n, stands) = (
     table = (settled_below n (end_of w y) x).table;
     makes = any_made y w x n;
     stands = stands;
+    few = omega arith;
     noted = λ r all. noted_same (end_of w y) (settled_below n (end_of w y) x).view (all_receiver (end_of w y) 0 (take n x.streams)) all;
   },
 )
@@ -161,17 +164,20 @@ module _ (y : Side) (w : World) (x : Table) (e : Event) (o : Option Packet) (bri
       (makes_more y w x (e ∷ []) [] [] [] (packets_in given) [] t (noted_and_swept t x).view x (noted_and_swept t x).table one more)
 
   packet_noted : (ps : List Packet) (t : EndView) → Makes y w x (e ∷ []) [] ps (noted_and_swept t x).view (noted_and_swept t x).table → IsReached w → IsAllNoted (all_noted t x).view
-  packet_noted ps t m r s some =
-      let keeps = noted_receiver t.receiver.streams t x in
-      let lt : s < (all_noted t x).view.receiver.streams =
-      subst (λ (q : EndView). s < q.receiver.streams) m.here
-      (waits_there (last_of w m.worlds) (reached_on y w x (e ∷ []) [] ps _ _ m r) y s (λ none. some (ap (λ (q : EndView). q.receiver.waiting s) (sym m.here) ∙ none))) in
-      resets_are_all_noted t x s (subst (λ (n : ℕ). s < n) keeps.1 lt)
+  packet_noted ps t m r = record { there = there; waiting = λ s some. there s (waits s some) }
+    where
+      there : (s : ℕ) → s < (all_noted t x).view.receiver.streams → (all_noted t x).view.receiver.resets.told s ≡ None
+      there s lt = resets_are_all_noted t x s (subst (λ (n : ℕ). s < n) (noted_receiver t.receiver.streams t x).1 lt)
+
+      waits : (s : ℕ) → ((all_noted t x).view.receiver.waiting s ≡ [] → ⊥) → s < (all_noted t x).view.receiver.streams
+      waits s some =
+          subst (λ (q : EndView). s < q.receiver.streams) m.here
+          (waits_there (last_of w m.worlds) (reached_on y w x (e ∷ []) [] ps _ _ m r) y s (λ none. some (ap (λ (q : EndView). q.receiver.waiting s) (sym m.here) ∙ none)))
 
   heard : (a : Option Outcome) (v : World) (t : EndView) (given : Option Packet) (c : Channels) → IsAt w v y t given → Step w e a v → StandNoted t x c → IsMade y w x (e ∷ []) [] (packets_in given) c
   heard a v t given c is step stands =
       let m = packet_made a v t given is step in
-      record { view = (noted_and_swept t x).view; table = (noted_and_swept t x).table; makes = m; stands = stands; noted = λ r all. packet_noted (packets_in given) t m r }
+      record { view = (noted_and_swept t x).view; table = (noted_and_swept t x).table; makes = m; stands = stands; few = omega arith; noted = λ r all. packet_noted (packets_in given) t m r }
 
 answered : (told : Verdict) (k : model.Verdict) → VerdictStands told k → IsAnsweredBy (Ok told) (packets_in (answer_of k))
 answered Taken k is = ap (λ (q : model.Verdict). packets_in (answer_of q)) is

@@ -1,5 +1,5 @@
 -- What calls make that are passed on to the endpoint: its steps; and time passes at one end.
-use Rattle.std.proofs.Common.{◌≡◌, ℕ, List, [], ◌∷◌, None, Ok, Err, refl, sym, subst}
+use Rattle.std.proofs.Common.{◌≡◌, ℕ, List, [], ◌∷◌, None, Ok, Err, refl, arith, sym, subst}
 use Rattle.sctp_model.specs.end.Moments.{ticked}
 use Rattle.sctp_model.specs.end.UserCalls.{abandoned_at, called, shut, AbortAnswer, Aborts, NoPeer, TooLong, abort_answer, abort_leaves}
 use Rattle.sctp_model.specs.world.World.{Side, A, B, World, end_of, bag_of, clock_of, with_end, with_log, with_clock, logged, end_now}
@@ -23,6 +23,7 @@ abandons_are_made y w x k c stands = record {
   table = x;
   makes = makes_one y w x (Abandon y k ∷ []) (Abandon y k) _ _ (abandoned_at (end_of w y) k) None [] x refl (at_log w y _ _) (steps.AbandonsOne y k) (Elsewhere (Abandon y k) _ refl) refl;
   stands = stands;
+  few = omega arith;
   noted = λ r all. noted_same (end_of w y) (abandoned_at (end_of w y) k) (unheard_abandoned (end_of w y) k).receiver all;
 }
 
@@ -33,6 +34,7 @@ connects_are_made w x d (Ok _) c drawn answer stands = record {
   makes = makes_one A w x (Connect d ∷ []) (Connect d) _ _ (called (end_now w A) d) None [] x refl (record { here = refl; there = refl; bag = refl; bag_there = refl; clock_a = refl; clock_b = refl; draw = refl })
       (steps.Connects d drawn (sym answer)) (Elsewhere (Connect d) _ refl) refl;
   stands = stands;
+  few = omega arith;
   noted = λ r all. noted_same w.a (called (end_now w A) d) refl all;
 }
 connects_are_made w x d (Err fault) c drawn answer stands = record {
@@ -41,6 +43,7 @@ connects_are_made w x d (Err fault) c drawn answer stands = record {
   makes = makes_one A w x (Connect d ∷ []) (Connect d) _ w w.a None [] x refl (record { here = refl; there = refl; bag = refl; bag_there = refl; clock_a = refl; clock_b = refl; draw = refl })
       (steps.ConnectRefused d (sym answer)) (Elsewhere (Connect d) _ refl) refl;
   stands = stands;
+  few = omega arith;
   noted = λ r all. all;
 }
 
@@ -50,6 +53,7 @@ shutdowns_are_made y w x c stands = record {
   table = x;
   makes = makes_one y w x (Shutdown y ∷ []) (Shutdown y) _ _ (shut (end_of w y)) None [] x refl (at_end w y _) (steps.ShutsDown y) (Elsewhere (Shutdown y) _ refl) refl;
   stands = stands;
+  few = omega arith;
   noted = λ r all. noted_same (end_of w y) (shut (end_of w y)) (unheard_shut (end_of w y)).receiver all;
 }
 
@@ -61,6 +65,7 @@ abort_made y w x reason a is = subst (λ (b : AbortAnswer). (c : Channels) → C
   table = x;
   makes = makes_one y w x (Abort y reason ∷ []) (Abort y reason) _ _ _ (abort_of (abort_answer (end_of w y) reason)) [] x refl (at_abort w y _ _) (steps.AbortsIt y reason) (Elsewhere (Abort y reason) _ refl) refl;
   stands = stands;
+  few = omega arith;
   noted = λ r all. noted_same (end_of w y) (abort_leaves (abort_answer (end_of w y) reason) (end_of w y)) (unheard_aborted (end_of w y) (abort_answer (end_of w y) reason)).receiver all;
 })
 
@@ -78,6 +83,7 @@ aborts_are_made y w x reason (Err fault.NoMemory) c is stands = (
     makes = makes_one y w x (Abort y reason ∷ []) (Abort y reason) None w (end_of w y) None [] x refl (record { here = refl; there = refl; bag = refl; bag_there = refl; clock_a = refl; clock_b = refl; draw = refl })
         (steps.NoMemory (Abort y reason) refl) (Elsewhere (Abort y reason) None refl) refl;
     stands = stands;
+    few = omega arith;
     noted = λ r all. all;
   },
 )

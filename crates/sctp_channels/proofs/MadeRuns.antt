@@ -1,5 +1,5 @@
 -- Calls at both ends, one after the other, are a run that the tables of both ends drive.
-use Rattle.std.proofs.Common.{◌≡◌, ℕ, max, List, [], ◌∷◌, ◌++◌, Option, None, false, refl, sym, subst, ap, ◌∙◌}
+use Rattle.std.proofs.Common.{◌≡◌, ℕ, ◌<◌, ◌≤◌, max, List, [], ◌∷◌, ◌++◌, length, Option, None, false, inl, refl, sym, subst, ap, ◌∙◌}
 use Rattle.std.proofs.lemmas.List.{append-nil}
 use Rattle.sctp_model.specs.wire.Packet.{Packet}
 use Rattle.sctp_model.specs.receiver.ReceiverView.{ReceiverView}
@@ -9,6 +9,7 @@ use Rattle.sctp_model.specs.world.World.{Side, A, B, other, World, end_of, Setup
 use Rattle.sctp_model.specs.world.Events.{Event, Outcome}
 use Rattle.sctp_model.specs.world.Steps.{Step, OpensBoth, OpenRefused, TimeGoesOn, MomentComes, TimePasses, Draws, NoMemory, PassesThrough, last_of}
 use Rattle.sctp_model.specs.world.Steps as steps
+use Rattle.sctp_outcomes.specs.AllReported.{arrives_at, HearsToldOnly}
 use Rattle.sctp_outcomes.proofs.Unheard.{unheard_ticked}
 use Rattle.sctp_channels.specs.declared.channels.Channels.{Channels}
 use Rattle.sctp_channels.specs.declared.table.DtlsRole.{DtlsRole}
@@ -18,24 +19,27 @@ use Rattle.sctp_channels.specs.Driven.{is_call, Elsewhere, Driven, Rests, Goes}
 use Rattle.sctp_channels.specs.Making.{Makes, IsReached, IsAllNoted, IsMade, with_side, IsDrivenTo}
 use Rattle.sctp_channels.specs.MadeByCalls.{IsBeside, CallsAreDriven}
 use Rattle.sctp_channels.specs.MadeByCalls as made
+use Rattle.sctp_channels.proofs.HeardOnce.{hears_once, hears_on, none_left}
 use Rattle.sctp_channels.proofs.MadeLemmas.{passes_on, last_on, driven_on}
 
 -- ---- resets stay noted
 
 pub noted_same : (e t : EndView) → t.receiver ≡ e.receiver → IsAllNoted e → IsAllNoted t
-noted_same e t is all s some =
-    subst (λ (r : ReceiverView). r.resets.told s ≡ None) (sym is) (all s (λ none. some (ap (λ (r : ReceiverView). r.waiting s) is ∙ none)))
+noted_same e t is all = record {
+  there = λ s lt. subst (λ (r : ReceiverView). r.resets.told s ≡ None) (sym is) (all.there s (subst (λ (r : ReceiverView). s < r.streams) is lt));
+  waiting = λ s some. subst (λ (r : ReceiverView). r.resets.told s ≡ None) (sym is) (all.waiting s (λ none. some (ap (λ (r : ReceiverView). r.waiting s) is ∙ none)));
+}
 
 start_noted : (s : Setup) (y : Side) → IsAllNoted (end_of (start s) y)
-start_noted s A k some = absurd (some refl)
-start_noted s B k some = absurd (some refl)
+start_noted s A = record { there = λ k lt. refl; waiting = λ k some. refl }
+start_noted s B = record { there = λ k lt. refl; waiting = λ k some. refl }
 
 module _ (s : Setup) (roles : Side → DtlsRole) (many : Side → ℕ) where
   abbrev tables : Side → Table
   tables y = fresh_table (roles y) (many y)
 
   begins : IsDrivenTo s roles many [] [] [] (λ y. []) (start s) tables
-  begins = record { passes = tt; ends = refl; driven = λ y. Rests (start s) (tables y); noted = start_noted s }
+  begins = record { passes = tt; ends = refl; driven = λ y. Rests (start s) (tables y); noted = start_noted s; in_time = λ y n. tt }
 
   module _ (es : List Event) (os : List (Option Outcome)) (vs : List World) (told : Side → List Report) (w : World) (x : Side → Table) (d : IsDrivenTo s roles many es os vs told w x) where
     reached : IsReached w
@@ -53,6 +57,9 @@ module _ (s : Setup) (roles : Side → DtlsRole) (many : Side → ℕ) where
     further y fs ps us rs z later =
         driven_on y (start s) (tables y) es os vs (told y) (x y) fs ps us rs z (d.driven y) (subst (λ (v : World). Driven y v (x y) fs ps us rs z) (sym d.ends) later)
 
+    further_heard : (z : Side) (n : ℕ) (fs : List Event) (ps : List (Option Outcome)) (us : List World) → HearsToldOnly z n w fs us → HearsToldOnly z n (start s) (es ++ fs) (vs ++ us)
+    further_heard z n fs ps us later = hears_on z n (start s) es os vs fs us d.passes (d.in_time z n) (subst (λ (v : World). HearsToldOnly z n v fs us) (sym d.ends) later)
+
     -- where nothing is told
     further_still : (y : Side) (fs : List Event) (ps : List (Option Outcome)) (us : List World) → Driven y w (x y) fs ps us [] (x y) → Driven y (start s) (tables y) (es ++ fs) (os ++ ps) (vs ++ us) (told y) (x y)
     further_still y fs ps us later =
@@ -65,6 +72,7 @@ module _ (s : Setup) (roles : Side → DtlsRole) (many : Side → ℕ) where
       ends = further_ends k.worlds;
       driven = both y k.driven (k.across (x (other y)));
       noted = all y (m.noted reached (d.noted y)) k.here k.there;
+      in_time = λ z n. further_heard z n k.events k.outcomes k.worlds (hears_once y z n w k.events k.outcomes k.worlds k.passes (subst (λ (fs : List Event). length fs ≤ 1) (sym k.beside) m.few) (none_left (end_of w z) n (d.noted z)));
     }
       where
         k : Makes y w (x y) others reports ps m.view m.table
@@ -91,9 +99,16 @@ module _ (s : Setup) (roles : Side → DtlsRole) (many : Side → ℕ) where
     off_call y e (made.Passes _) = refl
     off_call y e (made.Draws _) = refl
 
+    no_packet : (z : Side) (e : Event) → IsBeside e → arrives_at z e ≡ false
+    no_packet z e (made.OpensBoth _ _) = refl
+    no_packet z e (made.GoesOn _ _) = refl
+    no_packet z e (made.Comes _) = refl
+    no_packet z e (made.Passes _) = refl
+    no_packet z e (made.Draws _) = refl
+
     still_noted : (e : Event) (o : Option Outcome) (v : World) → IsBeside e → Step w e o v → (y : Side) → IsAllNoted (end_of v y)
-    still_noted e o v (made.OpensBoth _ _) (OpensBoth _ _ like may dx dy) A = λ k some. absurd (some refl)
-    still_noted e o v (made.OpensBoth _ _) (OpensBoth _ _ like may dx dy) B = λ k some. absurd (some refl)
+    still_noted e o v (made.OpensBoth _ _) (OpensBoth _ _ like may dx dy) A = record { there = λ k lt. refl; waiting = λ k some. refl }
+    still_noted e o v (made.OpensBoth _ _) (OpensBoth _ _ like may dx dy) B = record { there = λ k lt. refl; waiting = λ k some. refl }
     still_noted e o v (made.OpensBoth _ _) (OpenRefused _ _ off) y = d.noted y
     still_noted e o v (made.OpensBoth _ _) (NoMemory _ calm) y = d.noted y
     still_noted e o v (made.GoesOn _ _) (TimeGoesOn A m small) A = d.noted A
@@ -129,6 +144,7 @@ module _ (s : Setup) (roles : Side → DtlsRole) (many : Side → ℕ) where
       ends = further_ends (v ∷ []);
       driven = λ y. further_still y (e ∷ []) (o ∷ []) (v ∷ []) (Goes w v (x y) (x y) (x y) e o [] [] [] [] [] (Elsewhere e o (off_call y e beside)) (Rests v (x y)));
       noted = still_noted e o v beside step;
+      in_time = λ z n. further_heard z n (e ∷ []) (o ∷ []) (v ∷ []) (inl (no_packet z e beside), tt);
     }
 
 pub calls_are_driven : CallsAreDriven

@@ -6,7 +6,7 @@ use Rattle.sctp_model.specs.world.Steps.{last_of}
 use Rattle.sctp_channels.specs.Streams.{Table}
 use Rattle.sctp_channels.specs.Told.{Told, Incoming, Opened, Message, Closed, BufferedAmountLow, Refuses, Ignores, Report}
 use Rattle.sctp_channels.specs.Settling.{is_gone}
-use Rattle.sctp_channels.specs.Events.{with_next, swept_at, swept_below, freed_by, freed_behind}
+use Rattle.sctp_channels.specs.Events.{with_left_over, swept_at, swept_below, freed_by, freed_behind}
 use Rattle.sctp_channels.specs.Driven.{Rests, Frees}
 use Rattle.sctp_channels.specs.Making.{Makes}
 use Rattle.sctp_channels.proofs.MadeLemmas.{makes_still, makes_nothing, makes_more}
@@ -14,8 +14,8 @@ use Rattle.sctp_channels.proofs.MadeLemmas.{makes_still, makes_nothing, makes_mo
 one_swept : (y : Side) (w : World) (x : Table) (n : ℕ) → Makes y w x [] [] [] (end_of w y) (swept_at (end_of w y) x n)
 one_swept y w x n = go (is_gone (end_of w y) x n) refl
   where
-    go : (b : Bool) → is_gone (end_of w y) x n ≡ b → Makes y w x [] [] [] (end_of w y) (if b then with_next (end_of w y) x n else x)
-    go true gone = makes_still y w x [] (with_next (end_of w y) x n) (Frees w x (with_next (end_of w y) x n) [] [] [] [] n gone (Rests w (with_next (end_of w y) x n)))
+    go : (b : Bool) → is_gone (end_of w y) x n ≡ b → Makes y w x [] [] [] (end_of w y) (if b then with_left_over x n else x)
+    go true gone = makes_still y w x [] (with_left_over x n) (Frees w x (with_left_over x n) [] [] [] [] n gone (Rests w (with_left_over x n)))
     go false stays = makes_nothing y w x
 
 pub swept_made : (y : Side) (n : ℕ) (w : World) (x : Table) → Makes y w x [] [] [] (end_of w y) (swept_below n (end_of w y) x)

@@ -5,15 +5,14 @@ use Rattle.std.proofs.lemmas.Bool.{and_parts, cases_lt}
 use Rattle.std.proofs.lemmas.Bool.Decides.{nat_tests}
 use Rattle.sctp_model.specs.numbers.Lists.{at}
 use Rattle.sctp_model.specs.receiver.ReceiverView.{Handed}
-use Rattle.sctp_model.specs.receiver.SackMade.{first_taken}
 use Rattle.sctp_model.specs.end.EndView.{EndView, ended_of}
 use Rattle.sctp_channels.specs.declared.stream.Resets.{Resets}
 use Rattle.sctp_channels.specs.declared.stream.Resets.TheVariants.{Zero, One, Two}
 use Rattle.sctp_channels.specs.declared.stream.Stream.{Stream}
-use Rattle.sctp_channels.specs.Streams.{unused, is_reset, is_reset_again, is_drained, Table, stream_at, with_stream, with_none}
+use Rattle.sctp_channels.specs.Streams.{unused, is_reset, is_reset_again, is_drained, Table, stream_at, with_stream}
 use Rattle.sctp_channels.specs.Coming.{After, comes, leaving, one_taken, heard, peer_resets, left_over}
 use Rattle.sctp_channels.specs.Calling.{outgoing}
-use Rattle.sctp_channels.specs.Events.{Reported, quiet, reports_closed, reports_low, reports_taken, reports_waiting, reports_message, is_empty, is_readable, next_report, with_left_over, with_next, one_on}
+use Rattle.sctp_channels.specs.Events.{Reported, quiet, reports_closed, reports_low, reports_taken, reports_waiting, reports_message, is_empty, is_readable, next_report, with_left_over, one_on}
 use Rattle.sctp_channels.proofs.Promised.{Keeps, comes_keeps, left_is, report_cases, beyond, at_same, at_other, same_or_not}
 
 -- ---- one stream
@@ -132,12 +131,8 @@ module _ (n : ℕ) (T : ℕ → Type 0) (m : ℕ) (x : Table) (p : Marked T m (s
   same_marked s z k = put (Marked T m) x s n z (λ e. kept_marked T m (stream_at x s) z k (subst (λ (j : ℕ). Marked T m (stream_at x j)) (sym e) p)) (none_marked T m) p
 
   -- one that is closed
-  pub next_marked : (v : EndView) (i : ℕ) → Marked T m (stream_at (with_next v x i) n)
-  next_marked v i = go (is_some (ended_of v.phase))
-    where
-      go : (b : Bool) → Marked T m (stream_at (if b then with_none x i else with_left_over x i) n)
-      go true = put (Marked T m) x i n unused (λ _. none_marked T m) (none_marked T m) p
-      go false = put (Marked T m) x i n (left_over (stream_at x i)) (λ e. over_marked T m (stream_at x i) (subst (λ (j : ℕ). Marked T m (stream_at x j)) (sym e) p)) (none_marked T m) p
+  pub next_marked : (i : ℕ) → Marked T m (stream_at (with_left_over x i) n)
+  next_marked i = put (Marked T m) x i n (left_over (stream_at x i)) (λ e. over_marked T m (stream_at x i) (subst (λ (j : ℕ). Marked T m (stream_at x j)) (sym e) p)) (none_marked T m) p
 
 -- ---- what is told next
 
@@ -200,5 +195,5 @@ module _ (n : ℕ) (T : ℕ → Type 0) (v : EndView) (x : Table) (p : Marked T 
 
   pub report_marked : P (next_report v x)
   report_marked =
-      report_cases P v x (λ i on. next_marked n T (length (v.receiver.taken n)) x p v i) (λ i. p) (λ i on. by_waiting i on (v.receiver.waiting i)) p
-      (λ i on. next_marked n T (length (v.receiver.taken n)) x p v i)
+      report_cases P v x (λ i on. next_marked n T (length (v.receiver.taken n)) x p i) (λ i. p) (λ i on. by_waiting i on (v.receiver.waiting i)) p
+      (λ i on. next_marked n T (length (v.receiver.taken n)) x p i)

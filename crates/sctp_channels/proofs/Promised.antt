@@ -7,7 +7,6 @@ use lib.Seq.{get_or-set_same, get_or-set_other}
 use Rattle.sctp_model.specs.numbers.Lists.{at}
 use Rattle.sctp_model.specs.receiver.ReceiverView.{Handed}
 use Rattle.sctp_model.specs.receiver.ResetTaken.{old_waiting}
-use Rattle.sctp_model.specs.receiver.SackMade.{first_taken}
 use Rattle.sctp_model.specs.world.Calls.{Call}
 use Rattle.sctp_model.specs.end.EndView.{EndView, Ended, ended_of}
 use Rattle.sctp_outcomes.proofs.users.PartedRuns.{resets_part_messages}
@@ -19,14 +18,14 @@ use Rattle.sctp_channels.specs.declared.stream.Resets.{Resets}
 use Rattle.sctp_channels.specs.declared.stream.Resets.TheVariants.{One, Two}
 use Rattle.sctp_channels.specs.declared.stream.Stream.{Stream}
 use Rattle.sctp_channels.specs.declared.table.DtlsRole.{DtlsRole}
-use Rattle.sctp_channels.specs.Streams.{unused, is_reset, is_drained, Table, stream_at, with_stream, with_none, is_own, first_from}
+use Rattle.sctp_channels.specs.Streams.{unused, is_reset, is_drained, Table, stream_at, with_stream, is_own, first_from}
 use Rattle.sctp_channels.specs.Told.{WrongHalf, NoWayBack, Told, Message, Closed, BufferedAmountLow, Report}
 use Rattle.sctp_channels.specs.Coming.{After, tells, begins, refuses, control_comes, content_comes, other_comes, data_comes, Said, OfDcep, OfChannel, said_in, comes_saying, comes, half_closed, leaving, heard, peer_resets, left_over}
 use Rattle.sctp_channels.specs.Coming.{Said}
 use Rattle.sctp_channels.specs.Buffered.{is_low, with_low_told}
 use Rattle.sctp_channels.specs.Calling.{outgoing}
 use Rattle.sctp_channels.specs.Settling.{is_closing, is_asked, is_resetting_out, is_closed}
-use Rattle.sctp_channels.specs.Events.{Reported, quiet, reports_closed, reports_low, reports_message, reports_after, reports_taken, reports_waiting, is_empty, is_readable, readable_from, or_else, turn, is_used, reports_end, reports_turn, reports_second, reports_first, next_report, with_left_over, with_next, with_reset}
+use Rattle.sctp_channels.specs.Events.{Reported, first_taken_at, quiet, reports_closed, reports_low, reports_message, reports_after, reports_taken, reports_waiting, is_empty, is_readable, readable_from, or_else, turn, is_used, reports_end, reports_turn, reports_second, reports_first, next_report, with_left_over, with_reset}
 use Rattle.sctp_channels.specs.Promise.{ContentsAreTaken, HasPlace, ResetsAreNoted, PlacesAreKept, ClosedAtThePlace, IsOfContent, IsOfChannels, ChannelsSayWhatWasSent}
 
 -- ---- what a message leaves of the mark of a reset
@@ -115,7 +114,7 @@ left_is n x = go (n == 0) refl
 
 -- ---- what a message tells
 
-tells_no : (role : DtlsRole) (o s : ℕ) (t : State) (k : Control) (x : Stream) (c : Content) → (control_comes role o s t k x).told ≡ Message c → ⊥
+pub tells_no : (role : DtlsRole) (o s : ℕ) (t : State) (k : Control) (x : Stream) (c : Content) → (control_comes role o s t k x).told ≡ Message c → ⊥
 tells_no role o s Unused (Opens p) x c is = go (is_own role s) (nat_le o s) is
   where
     go : (a b : Bool) → (if a then refuses WrongHalf x else if b then refuses NoWayBack x else tells (Rattle.sctp_channels.specs.Told.Incoming p) (record (Rattle.sctp_channels.specs.Streams.with_channel Open p.ordered p.reliability x) { due = Rattle.sctp_channels.specs.declared.stream.Due.TheVariants.Acknowledgement })).told ≡ Message c → ⊥
@@ -146,7 +145,7 @@ content_tells Closing d x c is = (cc is, refl)
 content_tells Refused d x c is = absurd (cc)
 content_tells Silent d x c is = absurd (cc)
 
-other_tells : (t : State) (x : Stream) (c : Content) → (other_comes t x).told ≡ Message c → ⊥
+pub other_tells : (t : State) (x : Stream) (c : Content) → (other_comes t x).told ≡ Message c → ⊥
 other_tells Unused x c is = cc
 other_tells Connecting x c is = cc
 other_tells Unanswered x c is = cc
@@ -254,29 +253,29 @@ first_passes test i (suc n) j is = go (test i) refl is (λ further. first_passes
     go true on here further = let e : i ≡ j = cc here in subst (λ (k : ℕ). test k ≡ true) e on
     go false off here further = further here
 
-turn_passes : (v : EndView) (x : Table) (j : ℕ) → turn v x ≡ Some j → is_readable v x j ≡ true
+pub turn_passes : (v : EndView) (x : Table) (j : ℕ) → turn v x ≡ Some j → is_readable v x j ≡ true
 turn_passes v x j is = go (readable_from v x x.next) refl is
   where
     go : (o : Option ℕ) → readable_from v x x.next ≡ o → or_else o (readable_from v x 0) ≡ Some j → is_readable v x j ≡ true
     go (Some i) first here = first_passes (is_readable v x) x.next (65_536 - x.next) j (first ∙ here)
     go None first here = first_passes (is_readable v x) 0 (65_536 - 0) j here
 
-pub report_cases : (P : Reported → Type 0) (v : EndView) (x : Table) → ((i : ℕ) → is_closed v x i ≡ true → P (reports_closed i v x)) →
-    ((i : ℕ) → P (reports_low i v x)) → ((i : ℕ) → is_readable v x i ≡ true → P (reports_message i (v.receiver.waiting i) v x)) → P (quiet v x) →
-    ((i : ℕ) → is_some (ended_of v.phase) ≡ true → P (reports_closed i v x)) → P (next_report v x)
-report_cases P v x closed low readable none over = first (first_from (is_closed v x) 0 (length x.streams)) refl
+pub report_turns : (P : Reported → Type 0) (v : EndView) (x : Table) → ((i : ℕ) → is_closed v x i ≡ true → P (reports_closed i v x)) →
+    ((i : ℕ) → P (reports_low i v x)) → ((i : ℕ) → turn v x ≡ Some i → P (reports_message i (v.receiver.waiting i) v x)) → P (quiet v x) →
+    ((i : ℕ) → is_some (ended_of v.phase) ≡ true → turn v x ≡ None → P (reports_closed i v x)) → P (next_report v x)
+report_turns P v x closed low readable none over = first (first_from (is_closed v x) 0 (length x.streams)) refl
   where
-    ends : (o : Option ℕ) → is_some (ended_of v.phase) ≡ true → P (reports_end o v x)
-    ends (Some i) on = over i on
-    ends None on = none
+    ends : (o : Option ℕ) → is_some (ended_of v.phase) ≡ true → turn v x ≡ None → P (reports_end o v x)
+    ends (Some i) on idle = over i on idle
+    ends None on idle = none
 
-    third : (b : Bool) → is_some (ended_of v.phase) ≡ b → P (if b then reports_end (first_from (is_used x) 0 (length x.streams)) v x else quiet v x)
-    third true on = ends (first_from (is_used x) 0 (length x.streams)) on
-    third false off = none
+    third : (b : Bool) → is_some (ended_of v.phase) ≡ b → turn v x ≡ None → P (if b then reports_end (first_from (is_used x) 0 (length x.streams)) v x else quiet v x)
+    third true on idle = ends (first_from (is_used x) 0 (length x.streams)) on idle
+    third false off idle = none
 
     second : (o : Option ℕ) → turn v x ≡ o → P (reports_turn o v x)
-    second (Some i) is = readable i (turn_passes v x i is)
-    second None is = third (is_some (ended_of v.phase)) refl
+    second (Some i) is = readable i is
+    second None is = third (is_some (ended_of v.phase)) refl is
 
     by_low : (o : Option ℕ) → P (reports_second o v x)
     by_low (Some i) = low i
@@ -285,6 +284,11 @@ report_cases P v x closed low readable none over = first (first_from (is_closed 
     first : (o : Option ℕ) → first_from (is_closed v x) 0 (length x.streams) ≡ o → P (reports_first o v x)
     first (Some i) is = closed i (first_passes (is_closed v x) 0 (length x.streams) i is)
     first None is = by_low (first_from (is_low v x) 0 (length x.streams))
+
+pub report_cases : (P : Reported → Type 0) (v : EndView) (x : Table) → ((i : ℕ) → is_closed v x i ≡ true → P (reports_closed i v x)) →
+    ((i : ℕ) → P (reports_low i v x)) → ((i : ℕ) → is_readable v x i ≡ true → P (reports_message i (v.receiver.waiting i) v x)) → P (quiet v x) →
+    ((i : ℕ) → is_some (ended_of v.phase) ≡ true → P (reports_closed i v x)) → P (next_report v x)
+report_cases P v x closed low readable none over = report_turns P v x closed low (λ i is. readable i (turn_passes v x i is)) none (λ i on idle. over i on)
 
 -- what is told is one
 or_report : Option Report → Report
@@ -309,12 +313,12 @@ low_is_open is = cc
 module _ (v : EndView) (x : Table) (s : ℕ) (c : Content) where
   abbrev TakesIt : Reported → Type 0
   TakesIt r = r.report ≡ Some (record { stream = s; told = Message c }) →
-      (h : Handed) × (rest : List Handed) × (v.receiver.waiting s ≡ h ∷ rest) × (content_of h.payload h.bytes ≡ Some c) × (r.view ≡ record v { receiver = first_taken v.receiver s h rest })
+      (h : Handed) × (rest : List Handed) × (v.receiver.waiting s ≡ h ∷ rest) × (content_of h.payload h.bytes ≡ Some c) × (r.view ≡ first_taken_at v s h rest)
 
   by_stream : (i : ℕ) (h : Handed) (rest : List Handed) → v.receiver.waiting i ≡ h ∷ rest → i ≡ s → content_of h.payload h.bytes ≡ Some c →
-      (k : Handed) × (ks : List Handed) × (v.receiver.waiting s ≡ k ∷ ks) × (content_of k.payload k.bytes ≡ Some c) × (record v { receiver = first_taken v.receiver i h rest } ≡ record v { receiver = first_taken v.receiver s k ks })
+      (k : Handed) × (ks : List Handed) × (v.receiver.waiting s ≡ k ∷ ks) × (content_of k.payload k.bytes ≡ Some c) × (first_taken_at v i h rest ≡ first_taken_at v s k ks)
   by_stream i h rest waits e content =
-      (h, rest, subst (λ (j : ℕ). v.receiver.waiting j ≡ h ∷ rest) e waits, content, ap (λ (j : ℕ). record v { receiver = first_taken v.receiver j h rest }) e)
+      (h, rest, subst (λ (j : ℕ). v.receiver.waiting j ≡ h ∷ rest) e waits, content, ap (λ (j : ℕ). first_taken_at v j h rest) e)
 
   takes_it : TakesIt (next_report v x)
   takes_it =
@@ -390,13 +394,9 @@ module _ (v : EndView) (x : Table) (s n : ℕ) (p : HasPlace v x s n) where
   elsewhere_closed : (i : ℕ) → KeepsPlace (reports_closed i v x)
   elsewhere_closed i unclosed = go (same_or_not i s)
     where
-      by_end : (s ≡ i → ⊥) → (b : Bool) → HasPlace v (if b then with_none x i else with_left_over x i) s n
-      by_end ne true = untouched v (with_none x i) (at_other x i s unused ne) refl
-      by_end ne false = untouched v (with_left_over x i) (at_other x i s (left_over (stream_at x i)) ne) refl
-
-      go : (i ≡ s) ⊎ (s ≡ i → ⊥) → HasPlace v (with_next v x i) s n
+      go : (i ≡ s) ⊎ (s ≡ i → ⊥) → HasPlace v (with_left_over x i) s n
       go (inl e) = absurd (unclosed (ap (λ (k : ℕ). Some (record { stream = k; told = Closed })) e))
-      go (inr ne) = by_end ne (is_some (ended_of v.phase))
+      go (inr ne) = untouched v (with_left_over x i) (at_other x i s (left_over (stream_at x i)) ne) refl
 
   taken_at : (i : ℕ) (h : Handed) → (s ≡ i → ⊥) → length (at v.receiver.taken i (v.receiver.taken i ++ h ∷ []) s) ≡ length (v.receiver.taken s)
   taken_at i h ne = go (s == i) refl
@@ -447,7 +447,7 @@ module _ (v : EndView) (x : Table) (s n : ℕ) (p : HasPlace v x s n) where
           let some = some_left on in
           let left = keeps.left in
           let sum = p.place in
-          with_mark (record v { receiver = first_taken v.receiver s h rest }) (record (with_stream x s (heard (after s h))) { next = Rattle.sctp_channels.specs.Events.one_on s })
+          with_mark (first_taken_at v s h rest) (record (with_stream x s (heard (after s h))) { next = Rattle.sctp_channels.specs.Events.one_on s })
           (leaving (y.left - 1) z) (suc (length (v.receiver.taken s))) (at_same x s (heard (after s h)) lt ∙ marked) (ap (λ (r : Resets). is_reset r) k.1 ∙ reset) (own_taken h)
           (let l = k.0 in omega (arith, l, left, some, sum))
       go false waits unclosed =

@@ -14,7 +14,7 @@ use Rattle.sctp_model.specs.receiver.SackMade.{TakeLeaves}
 use Rattle.sctp_model.proofs.receiver.OneStep.{filter_has}
 use Rattle.sctp_model.proofs.receiver.RowLemmas.{row_fails}
 use Rattle.sctp_model.specs.end.EndView.{EndView}
-use Rattle.sctp_model.specs.end.Building.{Slot, Puts, NoMore, NotDue, Put, IsFull, Builds, Sleeps, Waits, Calls, Echoes, EndsFull, Fills, EchoSlot, CookieAckSlot, HeartbeatSlot, ErrorSlot, SackSlot, ForwardSlot, AnswerSlot, RequestSlot, ShutdownSlot, ShutdownAckSlot, once_built}
+use Rattle.sctp_model.specs.end.Building.{Slot, Puts, NoMore, NotDue, Put, IsFull, Builds, Sleeps, Waits, Calls, Echoes, EndsFull, Fills, EchoSlot, CookieAckSlot, HeartbeatSlot, BeatSlot, ErrorSlot, SackSlot, ForwardSlot, AnswerSlot, RequestSlot, ShutdownSlot, ShutdownAckSlot, once_built}
 use Rattle.sctp_model.specs.end.Reconfiguring.{asking_now, asking}
 use Rattle.sctp_model.specs.world.World.{Side, A, B, World, end_of, Setup, start}
 use Rattle.sctp_model.specs.world.Events.{Event, Outcome}
@@ -103,7 +103,7 @@ take_there f r s (Some h) t k (rest, waits, is) =
 
 there_law : IsReceiverLaw (Whatever IsThere)
 there_law = record {
-  fresh = λ f i n b. record { kept = λ y has. absurd has; waits = λ s some. absurd (some refl) };
+  fresh = λ f i n b v. record { kept = λ y has. absurd has; waits = λ s some. absurd (some refl) };
   piece = λ f n r p a t k came. piece_there f r p a t k came;
   forward = λ f n r m a t k came. forward_there f r m a t k came;
   sent = λ f n r k. record { kept = k.kept; waits = k.waits };
@@ -125,8 +125,8 @@ along w (e ∷ es) [] vs passes all = absurd passes
 along w (e ∷ es) (o ∷ os) [] passes all = absurd passes
 
 start_there : (s : Setup) → AreThere (start s)
-start_there s A = there_law.fresh _ _ _ _
-start_there s B = there_law.fresh _ _ _ _
+start_there s A = there_law.fresh _ _ _ _ _
+start_there s B = there_law.fresh _ _ _ _ _
 
 -- a message waits on a stream that is there
 pub waits_there : (w : World) → IsReached w → (y : Side) (s : ℕ) → ((end_of w y).receiver.waiting s ≡ [] → ⊥) → s < (end_of w y).receiver.streams
@@ -139,43 +139,48 @@ waits_there w r y s some =
 -- the same messages wait, and the same resets are to be told
 record TellsSame (e t : EndView) : Type 0 where
   waiting : t.receiver.waiting ≡ e.receiver.waiting
+  streams : t.receiver.streams ≡ e.receiver.streams
   told : t.receiver.resets.told ≡ e.receiver.resets.told
 
 same_on : (e t u : EndView) → TellsSame e t → TellsSame t u → TellsSame e u
-same_on e t u a b = record { waiting = b.waiting ∙ a.waiting; told = b.told ∙ a.told }
+same_on e t u a b = record { waiting = b.waiting ∙ a.waiting; streams = b.streams ∙ a.streams; told = b.told ∙ a.told }
 
 same_built : (s : Slot) (e : EndView) → TellsSame e (once_built s e)
-same_built EchoSlot e = record { waiting = refl; told = refl }
-same_built CookieAckSlot e = record { waiting = refl; told = refl }
-same_built HeartbeatSlot e = record { waiting = refl; told = refl }
-same_built ErrorSlot e = record { waiting = refl; told = refl }
-same_built SackSlot e = record { waiting = refl; told = refl }
-same_built ForwardSlot e = record { waiting = refl; told = refl }
-same_built AnswerSlot e = record { waiting = refl; told = refl }
-same_built RequestSlot e = record { waiting = refl; told = refl }
-same_built ShutdownSlot e = record { waiting = refl; told = refl }
-same_built ShutdownAckSlot e = record { waiting = refl; told = refl }
+same_built EchoSlot e = record { waiting = refl; streams = refl; told = refl }
+same_built CookieAckSlot e = record { waiting = refl; streams = refl; told = refl }
+same_built HeartbeatSlot e = record { waiting = refl; streams = refl; told = refl }
+same_built BeatSlot e = record { waiting = refl; streams = refl; told = refl }
+same_built ErrorSlot e = record { waiting = refl; streams = refl; told = refl }
+same_built SackSlot e = record { waiting = refl; streams = refl; told = refl }
+same_built ForwardSlot e = record { waiting = refl; streams = refl; told = refl }
+same_built AnswerSlot e = record { waiting = refl; streams = refl; told = refl }
+same_built RequestSlot e = record { waiting = refl; streams = refl; told = refl }
+same_built ShutdownSlot e = record { waiting = refl; streams = refl; told = refl }
+same_built ShutdownAckSlot e = record { waiting = refl; streams = refl; told = refl }
 
 same_puts : (ss : List Slot) (e : EndView) (xs zs : List ChunkMeaning) (full : Bool) (t : EndView) → Puts ss e xs zs full t → TellsSame e t
-same_puts ss e xs zs full t (NoMore _ _) = record { waiting = refl; told = refl }
+same_puts ss e xs zs full t (NoMore _ _) = record { waiting = refl; streams = refl; told = refl }
 same_puts ss e xs zs full t (NotDue _ more _ _ _ _ _ off rest) = same_puts more e xs zs full t rest
 same_puts ss e xs zs full t (Put s more _ x _ _ _ _ due wants room rest) = same_on e (once_built s e) t (same_built s e) (same_puts more (once_built s e) (xs ++ x ∷ []) zs full t rest)
-same_puts ss e xs zs full t (IsFull _ _ _ _ _ due wants room) = record { waiting = refl; told = refl }
+same_puts ss e xs zs full t (IsFull _ _ _ _ _ due wants room) = record { waiting = refl; streams = refl; told = refl }
 
 same_asking : (b : Bool) (e : EndView) → TellsSame e (asking_now b e)
-same_asking true e = record { waiting = refl; told = refl }
-same_asking false e = record { waiting = refl; told = refl }
+same_asking true e = record { waiting = refl; streams = refl; told = refl }
+same_asking false e = record { waiting = refl; streams = refl; told = refl }
 
 same_builds : (e : EndView) (zs : List ChunkMeaning) (t : EndView) → Builds e zs t → TellsSame e t
-same_builds e zs t (Sleeps _) = record { waiting = refl; told = refl }
-same_builds e zs t (Waits _ _ _) = record { waiting = refl; told = refl }
-same_builds e zs t (Calls _ _ _) = record { waiting = refl; told = refl }
+same_builds e zs t (Sleeps _) = record { waiting = refl; streams = refl; told = refl }
+same_builds e zs t (Waits _ _ _) = record { waiting = refl; streams = refl; told = refl }
+same_builds e zs t (Calls _ _ _) = record { waiting = refl; streams = refl; told = refl }
 same_builds e zs t (Echoes _ _ _ full _ is puts) = same_puts _ e [] zs full t puts
 same_builds e zs t (EndsFull _ _ _ _ is puts) = same_on e (asking e) t (same_asking _ e) (same_puts _ (asking e) [] zs true t puts)
 same_builds e zs t (Fills _ _ ys x is puts) =
-    let s = same_on e (asking e) x (same_asking _ e) (same_puts _ (asking e) [] ys false x puts) in record { waiting = s.waiting; told = s.told }
+    let s = same_on e (asking e) x (same_asking _ e) (same_puts _ (asking e) [] ys false x puts) in record { waiting = s.waiting; streams = s.streams; told = s.told }
 
 pub builds_noted : (e : EndView) (zs : List ChunkMeaning) (t : EndView) → Builds e zs t → IsAllNoted e → IsAllNoted t
-builds_noted e zs t b all s some =
+builds_noted e zs t b all =
     let same = same_builds e zs t b in
-    subst (λ (f : ℕ → Option ℕ). f s ≡ None) (sym same.told) (all s (λ none. some (ap (λ (f : ℕ → List Handed). f s) same.waiting ∙ none)))
+    record {
+      there = λ s lt. subst (λ (f : ℕ → Option ℕ). f s ≡ None) (sym same.told) (all.there s (subst (λ (n : ℕ). s < n) same.streams lt));
+      waiting = λ s some. subst (λ (f : ℕ → Option ℕ). f s ≡ None) (sym same.told) (all.waiting s (λ none. some (ap (λ (f : ℕ → List Handed). f s) same.waiting ∙ none)));
+    }

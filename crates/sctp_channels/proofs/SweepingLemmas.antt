@@ -1,12 +1,12 @@
 -- Streams that are closed without a channel are freed one after the other.
 use Rattle.std.proofs.Common.{◌≡◌, ℕ, zero, suc, ◌+◌, ◌-◌, ◌<◌, ◌≤◌, Bool, true, false, length, refl, sym, ap, ◌∙◌, arith, if◌then◌else◌}
-use Rattle.std.specs.Prelude.{◌&&◌, not, is_some}
-use Rattle.sctp_model.specs.end.EndView.{EndView, ended_of}
+use Rattle.std.specs.Prelude.{◌&&◌, not}
+use Rattle.sctp_model.specs.end.EndView.{EndView}
 use Rattle.sctp_channels.specs.declared.stream.Stream.{Stream}
-use Rattle.sctp_channels.specs.Streams.{unused, is_silent, is_drained, Table, stream_at, with_none}
+use Rattle.sctp_channels.specs.Streams.{is_silent, is_drained, Table, stream_at}
 use Rattle.sctp_channels.specs.Coming.{left_over}
 use Rattle.sctp_channels.specs.Settling.{is_asked, is_resetting_out, is_gone}
-use Rattle.sctp_channels.specs.Events.{with_left_over, with_next, swept_at, swept_below, swept}
+use Rattle.sctp_channels.specs.Events.{with_left_over, swept_at, swept_below, swept}
 use Rattle.sctp_channels.proofs.Promised.{at_other}
 
 -- ---- one more
@@ -27,18 +27,11 @@ swept_idle (suc n) v x idle =
 
 -- ---- those behind it
 
-next_other : (v : EndView) (x : Table) (n q : ℕ) → (q ≡ n → ⊥) → stream_at (with_next v x n) q ≡ stream_at x q
-next_other v x n q ne = go (is_some (ended_of v.phase))
-  where
-    go : (b : Bool) → stream_at (if b then with_none x n else with_left_over x n) q ≡ stream_at x q
-    go true = at_other x n q unused ne
-    go false = at_other x n q (left_over (stream_at x n)) ne
-
 at_once : (v : EndView) (x : Table) (n q : ℕ) → (q ≡ n → ⊥) → stream_at (swept_at v x n) q ≡ stream_at x q
 at_once v x n q ne = go (is_gone v x n)
   where
-    go : (b : Bool) → stream_at (if b then with_next v x n else x) q ≡ stream_at x q
-    go true = next_other v x n q ne
+    go : (b : Bool) → stream_at (if b then with_left_over x n else x) q ≡ stream_at x q
+    go true = at_other x n q (left_over (stream_at x n)) ne
     go false = refl
 
 swept_kept : (n : ℕ) (v : EndView) (x : Table) (q : ℕ) → n ≤ q → stream_at (swept_below n v x) q ≡ stream_at x q

@@ -4,7 +4,7 @@ use Rattle.std.specs.Prelude.{nat_le, if◌then◌else◌, ◌==◌}
 use Rattle.sctp_model.specs.receiver.ReceiverView.{Handed, ReceiverView}
 use Rattle.sctp_model.specs.receiver.SackMade.{first_taken}
 use Rattle.sctp_model.specs.end.EndView.{EndView}
-use Rattle.sctp_model.specs.end.UserCalls.{UserTakes}
+use Rattle.sctp_model.specs.end.UserCalls.{updating, UserTakes}
 use Rattle.sctp_recv.specs.declared.message.Message as recv
 use Rattle.sctp_dcep.specs.Content.{Content, DCEP, content_of}
 use Rattle.sctp_dcep.specs.Dcep.{Parameters, Control, Opens, Acknowledges, Faulty, control_of}
@@ -17,7 +17,7 @@ use Rattle.sctp_channels.specs.Streams.{Table, stream_at, is_own, with_channel}
 use Rattle.sctp_channels.specs.Told.{Told, Incoming, Opened, Message, Report, WrongHalf, NoWayBack}
 use Rattle.sctp_channels.specs.Coming.{After, tells, refuses, begins, with_ack, control_comes, content_comes, other_comes, OfDcep, OfChannel, comes_saying, comes}
 use Rattle.sctp_channels.specs.Calling.{outgoing}
-use Rattle.sctp_channels.specs.Events.{Reported, reports_taken, reports_waiting, reports_after, reports_message}
+use Rattle.sctp_channels.specs.Events.{Reported, first_taken_at, reports_taken, reports_waiting, reports_after, reports_message}
 use Rattle.sctp_channels.specs.Meanings.{content_bytes}
 use Rattle.sctp_channels.specs.inner.SaidMeans.{bytes_unless, content_told}
 use Rattle.sctp_channels.specs.inner.Upcoming.{TellsNoMessage}
@@ -109,11 +109,11 @@ tells_apart v x s h rest y waits kept none i c is =
 -- ---- a message that is told, and is copied
 
 -- the message that is taken is the one that waits
-pub took_first : (v t : EndView) (s : ℕ) (h : Handed) (rest : List Handed) → UserTakes v s (Some h) t → v.receiver.waiting s ≡ h ∷ rest → t ≡ record v { receiver = first_taken v.receiver s h rest }
+pub took_first : (v t : EndView) (s : ℕ) (h : Handed) (rest : List Handed) → UserTakes v s (Some h) t → v.receiver.waiting s ≡ h ∷ rest → t ≡ first_taken_at v s h rest
 took_first v t s h rest takes waits =
     let there = takes.takes.1 in
     let more : takes.takes.0 ≡ rest = cc in
-    takes.leaves ∙ (ap (λ (r : ReceiverView). record v { receiver = r }) (takes.takes.2 ∙ ap (λ (ks : List Handed). first_taken v.receiver s h ks) more))
+    takes.leaves ∙ (ap (λ (r : ReceiverView). updating (record v { receiver = r })) (takes.takes.2 ∙ ap (λ (ks : List Handed). first_taken v.receiver s h ks) more))
 
 -- it is told as a content
 pub content_report : (v : EndView) (x : Table) (s : ℕ) (h : Handed) (rest : List Handed) (y : Stream) (k : Content) → v.receiver.waiting s ≡ h ∷ rest → y ≡ stream_at x s

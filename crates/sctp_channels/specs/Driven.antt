@@ -26,7 +26,7 @@ use Rattle.sctp_channels.specs.Told.{Told, Message, Closed, Report}
 use Rattle.sctp_channels.specs.Buffered.{with_look, threshold_set}
 use Rattle.sctp_channels.specs.Calling.{open_call, ack_call, content_call, open_choice, negotiated_choice}
 use Rattle.sctp_channels.specs.Settling.{without_due, is_gone}
-use Rattle.sctp_channels.specs.Events.{next_report, with_next, with_reset, all_noted}
+use Rattle.sctp_channels.specs.Events.{next_report, with_left_over, with_reset, all_noted}
 use Rattle.sctp_channels.specs.Promise.{IsOfContent}
 
 -- ---- one event
@@ -94,7 +94,7 @@ pub data Driven (y : Side) : World → Table → List Event → List (Option Out
       may_send (stream_at x s).state ≡ true → Driven y w (threshold_set (end_of w y) s n x) es os vs more u → Driven y w x es os vs more u
   -- a stream is closed without a channel that was reported, and free again
   Frees : (w : World) (x u : Table) (es : List Event) (os : List (Option Outcome)) (vs : List World) (more : List Report) (s : ℕ) →
-      is_gone (end_of w y) x s ≡ true → Driven y w (with_next (end_of w y) x s) es os vs more u → Driven y w x es os vs more u
+      is_gone (end_of w y) x s ≡ true → Driven y w (with_left_over x s) es os vs more u → Driven y w x es os vs more u
 
 -- ---- a channel that is closed
 

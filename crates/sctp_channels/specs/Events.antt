@@ -4,8 +4,8 @@ use Rattle.sctp_model.specs.receiver.ReceiverView.{Handed}
 use Rattle.sctp_model.specs.receiver.SackMade.{first_taken}
 use Rattle.sctp_model.specs.receiver.ResetTaken.{old_waiting}
 use Rattle.sctp_model.specs.end.EndView.{EndView, ended_of}
-use Rattle.sctp_model.specs.end.UserCalls.{reset_there, told_leaves}
-use Rattle.sctp_channels.specs.Streams.{has_channel, is_drained, no_threshold, Table, stream_at, with_stream, with_threshold, with_none, first_from}
+use Rattle.sctp_model.specs.end.UserCalls.{updating, reset_there, told_leaves}
+use Rattle.sctp_channels.specs.Streams.{has_channel, is_drained, no_threshold, Table, stream_at, with_stream, with_threshold, first_from}
 use Rattle.sctp_channels.specs.Told.{Told, Incoming, Opened, Message, Closed, BufferedAmountLow, Refuses, Ignores, Report}
 use Rattle.sctp_channels.specs.Coming.{After, comes, heard, peer_resets, left_over}
 use Rattle.sctp_channels.specs.Buffered.{is_low, with_low_told}
@@ -26,13 +26,9 @@ quiet v x = record { report = None; view = v; table = x }
 abbrev pub with_left_over : Table → (stream : ℕ) → Table
 with_left_over x s = with_threshold (with_stream x s (left_over (stream_at x s))) s no_threshold
 
--- Once the association is over no further reset counts.
-abbrev pub with_next : EndView → Table → (stream : ℕ) → Table
-with_next v x s = if is_some (ended_of v.phase) then with_none x s else with_left_over x s
-
 -- a channel is closed
 abbrev pub reports_closed : (stream : ℕ) → EndView → Table → Reported
-reports_closed s v x = record { report = Some (record { stream = s; told = Closed }); view = v; table = with_next v x s }
+reports_closed s v x = record { report = Some (record { stream = s; told = Closed }); view = v; table = with_left_over x s }
 
 -- the buffered amount of a channel is low
 abbrev pub reports_low : (stream : ℕ) → EndView → Table → Reported
@@ -44,11 +40,15 @@ reports_low s v x = record { report = Some (record { stream = s; told = Buffered
 abbrev pub one_on : ℕ → ℕ
 one_on s = if s == 65_535 then 0 else suc s
 
+-- the endpoint once the first message that waits on a stream is taken, these others behind it (RFC 9260, 11.1.6)
+abbrev pub first_taken_at : EndView → (stream : ℕ) → Handed → List Handed → EndView
+first_taken_at v s h rest = updating (record v { receiver = first_taken v.receiver s h rest })
+
 -- a message that was taken is told of, and the next one is looked for on the streams behind
 abbrev pub reports_taken : (stream : ℕ) → Handed → List Handed → After → EndView → Table → Reported
 reports_taken s h rest a v x = record {
   report = Some (record { stream = s; told = a.told });
-  view = record v { receiver = first_taken v.receiver s h rest };
+  view = first_taken_at v s h rest;
   table = record (with_stream x s (heard a)) { next = one_on s };
 }
 
@@ -151,7 +151,7 @@ all_noted v x = resets_noted v.receiver.streams v x
 
 -- one of them is free again, without a report
 abbrev pub swept_at : EndView → Table → (stream : ℕ) → Table
-swept_at v x s = if is_gone v x s then with_next v x s else x
+swept_at v x s = if is_gone v x s then with_left_over x s else x
 
 -- so many streams, from 0 on
 abbrev pub swept_below : (many : ℕ) → EndView → Table → Table

@@ -15,5 +15,6 @@ pub mod inner
 pub mod Promise
 pub mod NextChannel
 pub mod Driven
+pub mod OneChannel
 pub mod Making
 pub mod MadeByCalls

@@ -1,10 +1,11 @@
 -- What calls of channels make: events, each a step of the world, which drive the table of their end (RFC 8831, 6; RFC 8832, 6).
-use Rattle.std.specs.Prelude.{◌≡◌, ℕ, not, List, [], ◌++◌, filter, Option, None}
+use Rattle.std.specs.Prelude.{◌≡◌, ℕ, ◌<◌, ◌≤◌, not, List, [], ◌++◌, length, filter, Option, None}
 use Rattle.sctp_model.specs.wire.Packet.{Packet}
 use Rattle.sctp_model.specs.end.EndView.{EndView}
 use Rattle.sctp_model.specs.world.World.{Side, A, B, other, World, end_of, bag_of, Setup, start}
 use Rattle.sctp_model.specs.world.Events.{Event, Outcome}
 use Rattle.sctp_model.specs.world.Steps.{PassesThrough, last_of}
+use Rattle.sctp_outcomes.specs.AllReported.{HearsToldOnly}
 use Rattle.sctp_channels.specs.declared.channels.Channels.{Channels}
 use Rattle.sctp_channels.specs.declared.table.DtlsRole.{DtlsRole}
 use Rattle.sctp_channels.specs.Streams.{Table, fresh_table}
@@ -45,15 +46,17 @@ pub record IsReached (w : World) : Type 0 where
   pub passes : PassesThrough (start setup) events outcomes worlds
   pub ends : last_of (start setup) worlds ≡ w
 
--- No reset of the peer's is left to be noted, on the streams on which messages wait.
-abbrev pub IsAllNoted : EndView → Type 0
-IsAllNoted v = (s : ℕ) → (v.receiver.waiting s ≡ [] → ⊥) → v.receiver.resets.told s ≡ None
+-- No reset of the peer's is left to be noted, on the streams that are there, and on those on which messages wait.
+pub record IsAllNoted (v : EndView) : Type 0 where
+  pub there : (s : ℕ) → s < v.receiver.streams → v.receiver.resets.told s ≡ None
+  pub waiting : (s : ℕ) → (v.receiver.waiting s ≡ [] → ⊥) → v.receiver.resets.told s ≡ None
 
--- The call made such events; the channels represent the view and the table that they leave; and resets are noted, as they were before.
+-- The call made such events, one at most beside calls of its end's user; the channels represent the view and the table that they leave; and resets are noted, as they were before.
 pub record IsMade (y : Side) (w : World) (x : Table) (others : List Event) (told : List Report) (packets : List Packet) (c : Channels) : Type 0 where
   pub view : EndView
   pub table : Table
   pub makes : Makes y w x others told packets view table
+  pub few : length others ≤ 1
   pub stands : ChannelsStand c view table
   pub noted : IsReached w → IsAllNoted (end_of w y) → IsAllNoted view
 
@@ -66,10 +69,12 @@ with_side A t f B = f B
 with_side B t f A = f A
 with_side B t f B = t
 
--- A run from the start led to this world, driven at both ends by tables that began without a channel: this was told, and these tables are left. Resets are noted at both ends.
+-- A run from the start led to this world, driven at both ends by tables that began without a channel: this was told, and these tables are left. Resets are noted at both ends, and
+-- were whenever a packet arrived.
 pub record IsDrivenTo (s : Setup) (roles : Side → DtlsRole) (many : Side → ℕ) (es : List Event) (os : List (Option Outcome)) (vs : List World) (told : Side → List Report) (w : World) (x : Side → Table)
     : Type 0 where
   pub passes : PassesThrough (start s) es os vs
   pub ends : last_of (start s) vs ≡ w
   pub driven : (y : Side) → Driven y (start s) (fresh_table (roles y) (many y)) es os vs (told y) (x y)
   pub noted : (y : Side) → IsAllNoted (end_of w y)
+  pub in_time : (y : Side) (n : ℕ) → HearsToldOnly y n (start s) es vs

@@ -3,7 +3,6 @@ use Rattle.std.specs.Prelude.{◌≡◌, ◌⊎◌, ℕ, ◌+◌, ◌<◌, ◌�
 use Rattle.sctp_model.specs.numbers.Lists.{Has}
 use Rattle.sctp_model.specs.receiver.ReceiverView.{Handed}
 use Rattle.sctp_model.specs.receiver.ResetTaken.{old_waiting}
-use Rattle.sctp_model.specs.receiver.SackMade.{first_taken}
 use Rattle.sctp_model.specs.world.Calls.{Call}
 use Rattle.sctp_model.specs.end.Configured.{IsConfiguration}
 use Rattle.sctp_model.specs.end.EndView.{EndView, ended_of}
@@ -17,7 +16,7 @@ use Rattle.sctp_outcomes.specs.Parted.{IsTold, AreMatched, AreParted}
 use Rattle.sctp_dcep.specs.Content.{Content, DCEP, id_of, carried, content_of}
 use Rattle.sctp_channels.specs.Streams.{is_reset, is_reset_again, Table, stream_at}
 use Rattle.sctp_channels.specs.Told.{Message, Closed}
-use Rattle.sctp_channels.specs.Events.{next_report, with_reset}
+use Rattle.sctp_channels.specs.Events.{first_taken_at, next_report, with_reset}
 
 -- ---- what is told was taken
 
@@ -27,7 +26,7 @@ pub record IsTaken (v : EndView) (x : Table) (s : ℕ) (c : Content) : Type 0 wh
   pub rest : List Handed
   pub waits : v.receiver.waiting s ≡ message ∷ rest
   pub content : content_of message.payload message.bytes ≡ Some c
-  pub leaves : (next_report v x).view ≡ record v { receiver = first_taken v.receiver s message rest }
+  pub leaves : (next_report v x).view ≡ first_taken_at v s message rest
 
 -- a content that is told is in the message that waited first, and that is taken (RFC 8831, 6.6)
 abbrev pub ContentsAreTaken : Type 0
@@ -68,14 +67,14 @@ pub record HasNextPlace (v : EndView) (x : Table) (s n : ℕ) : Type 0 where
   pub place : length (v.receiver.taken s) + (stream_at x s).again ≡ n
   pub behind : (stream_at x s).left ≤ (stream_at x s).again
 
--- A further reset is noted with its place; whatever is told next, but that the channel is closed, the place stays; and once that is told, while the association lives,
--- it is the place of the stream's next channel (RFC 8831, 6.7).
+-- A further reset is noted with its place; whatever is told next, but that the channel is closed, the place stays; and once that is told, it is the place of the stream's
+-- next channel (RFC 8831, 6.7).
 pub record SecondResetsAreKept : Type 0 where
   pub noted : (v : EndView) (x : Table) (s n count : ℕ) → HasPlace v x s n → n ≤ length (v.receiver.taken s) + count →
       HasNextPlace v (with_reset s count x) s (length (v.receiver.taken s) + count)
   pub kept : (v : EndView) (x : Table) (s n : ℕ) → HasNextPlace v x s n → ((next_report v x).report ≡ Some (record { stream = s; told = Closed }) → ⊥) →
       HasNextPlace (next_report v x).view (next_report v x).table s n
-  pub next : (v : EndView) (x : Table) (s n : ℕ) → HasNextPlace v x s n → ended_of v.phase ≡ None → (next_report v x).report ≡ Some (record { stream = s; told = Closed }) →
+  pub next : (v : EndView) (x : Table) (s n : ℕ) → HasNextPlace v x s n → (next_report v x).report ≡ Some (record { stream = s; told = Closed }) →
       HasPlace (next_report v x).view (next_report v x).table s n
 
 -- ---- what is told was sent

@@ -146,10 +146,6 @@ threshold_at x s = slice_index_or x.thresholds s no_threshold
 abbrev pub with_threshold : Table → ℕ → Threshold → Table
 with_threshold x s t = record x { thresholds = slice_set x.thresholds s t }
 
--- nothing is left of the stream's channel
-abbrev pub with_none : Table → ℕ → Table
-with_none x s = with_threshold (with_stream x s unused) s no_threshold
-
 -- This side opens channels on it: the DTLS client on streams of even, the server on streams of odd number (RFC 8832, 6).
 abbrev pub is_own : DtlsRole → (stream : ℕ) → Bool
 is_own Client s = s % 2 == 0

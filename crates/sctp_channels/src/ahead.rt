@@ -3,7 +3,7 @@
 ghost use Rattle.std.specs.Prelude.{◌≡◌, length};
 ghost use Rattle.sctp_model.specs.end.EndView.{EndView};
 ghost use Rattle.sctp_endpoint.specs.Counted.{counted};
-ghost use Rattle.sctp_channels.specs.Streams.{Table, stream_at, with_stream, first_from};
+ghost use Rattle.sctp_channels.specs.Streams.{is_reset, Table, stream_at, with_stream, first_from};
 ghost use Rattle.sctp_channels.specs.Coming.{one_taken};
 ghost use Rattle.sctp_channels.specs.Events.{one_on};
 ghost use Rattle.sctp_channels.specs.Settling.{is_closed};
@@ -33,7 +33,7 @@ impl Channels {
         ensures same { (v : EndView) (x : Table) → ChannelsStand self.old v x → ChannelsStand self.new v x }
         ensures counts { counted (endpoint_of self.new) ≡ counted (endpoint_of self.old) }
     {
-        if self.table.busy.high <= self.table.busy.low {
+        if self.table.busy.high == 0 {
             return Ahead::Nothing;
         }
         self.look_ahead()
@@ -84,19 +84,20 @@ impl Channels {
             && !self.endpoint.is_resetting(stream)
     }
 
-    /// Counts that a message was taken from a stream that is kept so, behind which the next one is looked for. Where the peer hasn't reset the stream, what is
+    /// Counts that a message was taken from a stream, behind which the next one is looked for. The peer has reset it or not: where it hasn't, what is
     /// reported ahead of messages stays as it is.
     #[inline(always)]
-    pub(crate) fn count_taken(&mut self, stream: u16, kept: Stream)
-        ensures step { (v : EndView) (x : Table) → ChannelsStand self.old v x → kept ≡ stream_at x stream
-            → ChannelsStand self.new v (record (with_stream x stream (one_taken kept)) { next = one_on stream }) }
+    pub(crate) fn count_taken(&mut self, stream: u16, is_left: bool)
+        ensures step { (v : EndView) (x : Table) → ChannelsStand self.old v x → is_left ≡ is_reset (stream_at x stream).resets
+            → ChannelsStand self.new v (record (with_stream x stream (one_taken (stream_at x stream))) { next = one_on stream }) }
         ensures counts { counted (endpoint_of self.new) ≡ counted (endpoint_of self.old) }
     {
-        if !kept.resets.is_reset() {
+        if !is_left {
             self.table.turn_past(stream);
             return;
         }
         self.is_calm = false;
+        let kept = self.table.at(stream);
         self.table.set(stream, kept.one_taken());
         self.table.turn_past(stream);
     }

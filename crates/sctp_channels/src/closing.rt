@@ -56,7 +56,7 @@ impl Channels {
         ensures step { (v : EndView) (x : Table) → ChannelsStand self.old v x → SettlesAll v x result self.new }
         ensures counts { counted (endpoint_of self.new) ≡ counted (endpoint_of self.old) }
     {
-        if self.table.busy.high <= self.table.busy.low {
+        if self.table.busy.high == 0 {
             return Ok(());
         }
         self.settle_busy()

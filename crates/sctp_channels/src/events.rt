@@ -161,7 +161,7 @@ impl Channels {
         ensures counts { counted (endpoint_of self.new) ≡ counted (endpoint_of self.old) }
     {
         let message = self.endpoint.take(stream);
-        self.count_taken(stream, kept);
+        self.count_taken(stream, kept.resets.is_reset());
         content_event(stream, kind, message)
     }
 

@@ -5,7 +5,7 @@ ghost use Rattle.sctp_model.specs.end.EndView.{EndView};
 ghost use Rattle.sctp_endpoint.specs.Counted.{counted};
 ghost use Rattle.sctp_channels.specs.Streams.{Table};
 ghost use Rattle.sctp_channels.specs.Settling.{is_gone};
-ghost use Rattle.sctp_channels.specs.Events.{with_next, swept_at, swept, freed_by};
+ghost use Rattle.sctp_channels.specs.Events.{with_left_over, swept_at, swept, freed_by};
 ghost use Rattle.sctp_channels.specs.inner.SaidMeans.{told_meaning};
 ghost use Rattle.sctp_channels.specs.ChannelsStand.{ChannelsStand, endpoint_of};
 
@@ -21,7 +21,7 @@ impl Channels {
         ensures step { (v : EndView) (x : Table) → ChannelsStand self.old v x → ChannelsStand self.new v (swept v x) }
         ensures counts { counted (endpoint_of self.new) ≡ counted (endpoint_of self.old) }
     {
-        if self.table.busy.high <= self.table.busy.low {
+        if self.table.busy.high == 0 {
             return;
         }
         self.sweep_busy();
@@ -71,17 +71,13 @@ impl Channels {
             && !self.endpoint.is_resetting(stream)
     }
 
-    /// A stream is closed: it is free, or the peer has reset it again. Once the association is over no further reset counts.
+    /// A stream is closed: it is free, or the peer has reset it again.
     #[inline(never)]
     pub(crate) fn leave(&mut self, stream: u16)
-        ensures step { (v : EndView) (x : Table) → ChannelsStand self.old v x → ChannelsStand self.new v (with_next v x stream) }
+        ensures step { (v : EndView) (x : Table) → ChannelsStand self.old v x → ChannelsStand self.new v (with_left_over x stream) }
         ensures counts { counted (endpoint_of self.new) ≡ counted (endpoint_of self.old) }
     {
         self.is_calm = false;
-        if self.endpoint.ended().is_some() {
-            self.table.free(stream);
-        } else {
-            self.table.leave(stream);
-        }
+        self.table.leave(stream);
     }
 }

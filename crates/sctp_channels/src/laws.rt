@@ -4,6 +4,7 @@
 
 ghost use Rattle.sctp_channels.specs.Driven.{ChannelsAreFaithful, ResetsAreAllNoted};
 ghost use Rattle.sctp_channels.specs.NextChannel.{CoursesKeepPlaces, NextChannelsAreNew};
+ghost use Rattle.sctp_channels.specs.OneChannel.{ChannelsAreOne, TwoChannelsOnAStream};
 ghost use Rattle.sctp_channels.specs.Promise.{ChannelsSayWhatWasSent, ClosedAtThePlace, ContentsAreTaken, PlacesAreKept, ResetsAreNoted, SecondResetsAreKept};
 
 // law
@@ -22,8 +23,8 @@ pub fn resets_are_noted()
 {}
 
 // law
-/// A second reset of the peer's is noted with its place, too, which stays until the channel is reported closed; then, while the association lives, it is the place of the
-/// stream's next channel (RFC 8831, 6.7).
+/// A second reset of the peer's is noted with its place, too, which stays until the channel is reported closed; then it is the place of the stream's next
+/// channel (RFC 8831, 6.7).
 pub fn second_resets_are_kept()
     ensures { SecondResetsAreKept }
 {}
@@ -67,4 +68,14 @@ pub fn channels_are_faithful()
 /// Once all resets of the peer's are noted, as they are after each packet, none is left to be reported: so it is whenever a message is taken (RFC 6525, 5.2.2).
 pub fn resets_are_all_noted()
     ensures { ResetsAreAllNoted }
+{}
+
+// law
+/// CHANNELS ARE ONE. Where a table of channels drives each end of a run that meets the three premises, and each reset was noted whenever a packet arrived, as calls of channels
+/// do: any two contents that are reported of a stream, without a report between that a channel of it is closed, are those of two messages between which the peer's user had no
+/// reset of the stream accepted: what is reported on one channel was sent on one (RFC 8831, 6.7). And there is such a run in which two contents are reported on one channel, and a
+/// third, after CLOSED, on the next one of its stream.
+pub fn channels_are_one()
+    ensures one { ChannelsAreOne }
+    ensures two { TwoChannelsOnAStream }
 {}

@@ -33,12 +33,13 @@
 //! | law | contract |
 //! |---|---|
 //! | on each stream the contents that are reported are those of messages that were taken, each of one, in their order; messages are matched one to one with those that the peer's user sent, text with text and with the same bytes, the ordered ones in order; and whenever a channel is reported closed while the association lives, the peer's user had reset the stream, what was taken until then was accepted before that, and what is delivered later after it | [`channels_are_faithful`] |
+//! | any two contents that are reported of a stream, without a report between that a channel of it is closed, are of two messages between which the peer's user had no reset of the stream accepted, where each reset was noted whenever a packet arrived, as calls do | [`channels_are_one`] |
 //! | a content that is reported is in the message that waited first on its stream, and that is taken | [`contents_are_taken`] |
 //! | the place of a reset in the stream is noted, and stays until the channel is reported closed | [`resets_are_noted`] |
-//! | the place of a further reset is noted, too, and stays; once the channel is reported closed while the association lives, it is that of the stream's next channel | [`second_resets_are_kept`] |
+//! | the place of a further reset is noted, too, and stays; once the channel is reported closed, it is that of the stream's next channel | [`second_resets_are_kept`] |
 //! | a channel is reported closed once all before the place was taken, and nothing after it | [`closed_at_the_place`] |
 //! | once all resets are noted, as after each packet, none is left to be reported | [`resets_are_all_noted`] |
-//! | each call makes events that are steps of the world and drive the table, and what it sends is in the bag of its endpoint; calls at both endpoints, one after the other from the start, are a run of which the first law speaks | [`user_calls_are_made`], [`events_are_made`], [`packets_are_made`], [`passed_calls_are_made`], [`calls_are_driven`] |
+//! | each call makes events that are steps of the world and drive the table, and what it sends is in the bag of its endpoint; calls at both endpoints, one after the other from the start, are a run of which the first two laws speak | [`user_calls_are_made`], [`events_are_made`], [`packets_are_made`], [`passed_calls_are_made`], [`calls_are_driven`] |
 //! | where the peer's user sends what channels send, without tables: what is reported was sent, and resets part it | [`channels_say_what_was_sent`], [`next_channels_are_new`] |
 //!
 //! Not promised: that the peer answers, that labels and text are UTF-8, anything of DTLS and ICE. A body may answer `NoMemory` although there was some.
@@ -73,8 +74,9 @@ pub use channels::Channels;
 pub use event::{Event, Ignored, Parameters, Refusal};
 pub use fault::{CloseFault, OpenFault, SendFault, ThresholdFault};
 pub use laws::{
-    channels_are_faithful, channels_say_what_was_sent, closed_at_the_place, contents_are_taken,
-    next_channels_are_new, resets_are_all_noted, resets_are_noted, second_resets_are_kept,
+    channels_are_faithful, channels_are_one, channels_say_what_was_sent, closed_at_the_place,
+    contents_are_taken, next_channels_are_new, resets_are_all_noted, resets_are_noted,
+    second_resets_are_kept,
 };
 pub use making::{
     calls_are_driven, events_are_made, packets_are_made, passed_calls_are_made, user_calls_are_made,

@@ -7,6 +7,7 @@ ghost use Rattle.sctp_channels.specs.Events.{is_used};
 ghost use Rattle.sctp_channels.specs.Meanings.{table_meaning};
 ghost use Rattle.sctp_channels.specs.inner.Spans.{is_busy};
 
+use crate::span::Span;
 use crate::table::Table;
 
 impl Table {
@@ -18,12 +19,22 @@ impl Table {
         self.at(stream).is_restless() || self.threshold(stream).is_above
     }
 
-    /// Leaves out of `busy` the streams at its ends that aren't.
+    /// Leaves out of `busy` the streams at its ends that aren't. If none is left it ends at 0.
     pub(crate) fn shorten(&mut self)
         ensures { table_meaning self.new ≡ table_meaning self.old }
     {
         self.raise_low();
         self.lower_high();
+        self.end_busy();
+    }
+
+    /// If `busy` has no stream it ends at 0.
+    fn end_busy(&mut self)
+        ensures { table_meaning self.new ≡ table_meaning self.old }
+    {
+        if self.busy.high <= self.busy.low {
+            self.busy = Span::empty();
+        }
     }
 
     /// Leaves out of `busy` its lowest streams that aren't.

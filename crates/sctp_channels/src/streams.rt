@@ -1,7 +1,7 @@
 //! The streams of all channels: made, read and changed.
 
 ghost use Rattle.std.specs.Prelude.{◌≡◌, replicate, IfOk, OnErr};
-ghost use Rattle.sctp_channels.specs.Streams.{is_own, no_threshold, fresh_table, stream_at, with_stream, threshold_at, with_threshold, with_none};
+ghost use Rattle.sctp_channels.specs.Streams.{is_own, no_threshold, fresh_table, stream_at, with_stream, threshold_at, with_threshold};
 ghost use Rattle.sctp_channels.specs.Events.{one_on, with_left_over};
 ghost use Rattle.sctp_channels.specs.Buffered.{with_thresholds};
 ghost use Rattle.sctp_channels.specs.Meanings.{table_meaning};
@@ -121,14 +121,6 @@ impl Table {
     {
         let kept = self.at(stream);
         self.set(stream, kept.left_over());
-        self.set_threshold(stream, Threshold::none());
-    }
-
-    /// Nothing is left of a stream's channel.
-    pub(crate) fn free(&mut self, stream: u16)
-        ensures { table_meaning self.new ≡ with_none (table_meaning self.old) stream }
-    {
-        self.set(stream, Stream::unused());
         self.set_threshold(stream, Threshold::none());
     }
 }

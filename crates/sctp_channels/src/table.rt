@@ -25,7 +25,8 @@ pub(crate) struct Table {
     pub(crate) streams: Vec<Stream>,
     /// The low threshold of each stream; none before the first is set.
     pub(crate) thresholds: Vec<Threshold>,
-    /// Each stream that is being closed, of which something is due, or whose amount was above its threshold, is among these.
+    /// Each stream that is being closed, of which something is due, or whose amount was above its threshold, is among these. Where there is none it
+    /// mostly ends at 0, which is all that is looked at then.
     pub(crate) busy: Span,
     /// Each stream with a channel is among these.
     pub(crate) used: Span,

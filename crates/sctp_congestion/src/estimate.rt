@@ -3,6 +3,7 @@
 ghost use Rattle.std.specs.Prelude.{◌≡◌, ◌/◌, ◌≤◌, Some, None};
 ghost use Rattle.sctp_model.specs.numbers.Limits as limits;
 ghost use Rattle.sctp_model.specs.end.Trips.{smoothed_by, wait_of};
+ghost use Rattle.sctp_congestion.specs.Waits.{plain_waits};
 
 use crate::round_trip::RoundTrip;
 use sctp_values::LONGEST_WAIT;
@@ -65,7 +66,7 @@ impl RttEstimate {
     /// The RTO in milliseconds: SRTT and four times RTTVAR, of which the latter is at least the clock's granularity, 1 ms; at least `rto_min`
     /// (RTO.Min, in milliseconds) and at most RTO.Max, 60,000 (RFC 9260, 6.3.1, C2, C3, C6, C7 and G1).
     pub fn rto(self, rto_min: u32) -> u64
-        ensures exact { result ≡ wait_of rto_min self }
+        ensures exact { result ≡ wait_of (plain_waits rto_min) self }
         ensures most { result ≤ limits.LONGEST_WAIT }
     {
         let computed = self.eight_srtt / 8 + self.four_rttvar.max(4 * TICK);

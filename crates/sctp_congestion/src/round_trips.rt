@@ -7,6 +7,7 @@ ghost use Rattle.sctp_model.specs.sender.Words.{when};
 ghost use Rattle.sctp_model.specs.end.Trips.{fresh_trips, timed_from, still_timed, trip_told, with_trip};
 ghost use Rattle.sctp_model.specs.end.Pacing.{wait_measured};
 ghost use Rattle.sctp_congestion.specs.Numbers.{is_measured};
+ghost use Rattle.sctp_congestion.specs.Waits.{plain_waits};
 
 use crate::estimate::RttEstimate;
 use crate::round_trip::RoundTrip;
@@ -154,7 +155,7 @@ impl RoundTrips {
     /// The RTO in milliseconds, at most RTO.Max: computed from SRTT and RTTVAR; RTO.Initial, 1,000, before the first measurement (RFC 9260, 6.3.1,
     /// C1 to C3). `rto_min` is RTO.Min in milliseconds.
     pub fn rto(&self, rto_min: u32) -> u64
-        ensures exact { result ≡ wait_measured rto_min self.now.smoothed }
+        ensures exact { result ≡ wait_measured (plain_waits rto_min) self.now.smoothed }
         ensures most { result ≤ limits.LONGEST_WAIT }
     {
         match self.estimate {

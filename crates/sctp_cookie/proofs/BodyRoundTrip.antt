@@ -1,68 +1,23 @@
 -- A body's bytes read back as the body, and bytes of the layout are those of the body that they read as.
-use Rattle.std.proofs.Common.{◌≡◌, ℕ, zero, suc, ◌+◌, ◌≤◌, Bool, true, false, cond, List, [], ◌∷◌, ◌++◌, length, take, drop, get_or, refl, ap, sym, ◌∙◌, arith, nat_eq, nat_le, bit_and}
-use Rattle.std.specs.Prelude.{not, ◌||◌}
-use Rattle.std.proofs.lemmas.Bool.{and_parts, eqb-true, leb-true}
+use Rattle.std.proofs.Common.{◌≡◌, ℕ, Bool, true, false, List, [], ◌∷◌, ◌++◌, length, take, drop, get_or, refl, ap, sym, ◌∙◌, arith}
+use Rattle.std.specs.Prelude.{not}
+use Rattle.std.proofs.lemmas.Bool.{and_parts, eqb-true}
 use Rattle.std.proofs.lemmas.List.{length-drop, drop_more}
 use Rattle.std.proofs.Math.Seq.{take-add}
 use Rattle.byteorder.specs.Numbers.{big_from-lt, big_number-reads_back}
 use Rattle.sctp_model.specs.numbers.Numbers.{AreBytes}
 use Rattle.sctp_model.specs.end.Sealing.{Body, IsInRange, IsPartyInRange}
-use Rattle.sctp_cookie.specs.CookieBody.{body_bytes, body_of, has_form, options_byte}
+use Rattle.sctp_cookie.specs.CookieBody.{body_bytes, body_of, has_form, no_options, options_byte, says_only}
 use Rattle.sctp_cookie.specs.CookieTree.{body_meaning, content_meaning}
 use Rattle.sctp_cookie.specs.Opens.{is_made}
 use Rattle.sctp_cookie.specs.declared.body.CookieContent.{CookieContent}
+use Rattle.sctp_cookie.specs.declared.body.CookieOptions.{CookieOptions}
+use Rattle.sctp_cookie.proofs.OptionLemmas.{byte_again, only_made, said, said_only}
 use Rattle.sctp_cookie.proofs.Numbers.{AreBytes-drop, big_bytes-number_2, big_bytes-number_4, big_bytes-number_8}
 
 pub length-body_bytes : (body : Body) → length (body_bytes body) ≡ 40
 unfolding body_bytes
 length-body_bytes body = refl
-
--- ---- the options
-
-first_bit : (p i r : Bool) → not (nat_eq (bit_and (cond p 1 0 + cond i 2 0 + cond r 4 0) 1) 0) ≡ p
-first_bit false false false = refl
-first_bit false false true = refl
-first_bit false true false = refl
-first_bit false true true = refl
-first_bit true false false = refl
-first_bit true false true = refl
-first_bit true true false = refl
-first_bit true true true = refl
-
-second_bit : (p i r : Bool) → not (nat_eq (bit_and (cond p 1 0 + cond i 2 0 + cond r 4 0) 2) 0) ≡ i
-second_bit false false false = refl
-second_bit false false true = refl
-second_bit false true false = refl
-second_bit false true true = refl
-second_bit true false false = refl
-second_bit true false true = refl
-second_bit true true false = refl
-second_bit true true true = refl
-
-third_bit : (p i r : Bool) → not (nat_eq (bit_and (cond p 1 0 + cond i 2 0 + cond r 4 0) 4) 0) ≡ r
-third_bit false false false = refl
-third_bit false false true = refl
-third_bit false true false = refl
-third_bit false true true = refl
-third_bit true false false = refl
-third_bit true false true = refl
-third_bit true true false = refl
-third_bit true true true = refl
-
-at_most : (resets p i r : Bool) → (resets || not r) ≡ true → nat_le (cond p 1 0 + cond i 2 0 + cond r 4 0) (cond resets 7 3) ≡ true
-at_most false false false false made = refl
-at_most false false true false made = refl
-at_most false true false false made = refl
-at_most false true true false made = refl
-at_most false p i true made = absurd (cc)
-at_most true false false false made = refl
-at_most true false false true made = refl
-at_most true false true false made = refl
-at_most true false true true made = refl
-at_most true true false false made = refl
-at_most true true false true made = refl
-at_most true true true false made = refl
-at_most true true true true made = refl
 
 -- ---- what was written is read
 
@@ -79,9 +34,7 @@ body_of-body_bytes body mac fits =
     let rwnd = big_number-reads_back 4 body.rwnd [] fits.window in
     let to_caller = big_number-reads_back 2 body.to_caller [] fits.counts.0 in
     let from_caller = big_number-reads_back 2 body.from_caller [] fits.counts.1 in
-    let partial = first_bit body.partial body.interleave body.reset in
-    let interleave = second_bit body.partial body.interleave body.reset in
-    let reset = third_bit body.partial body.interleave body.reset in
+    let options = said body in
     λ i. record {
       made = made i;
       listener = record { port = listener_port i; tag = listener_tag i; tsn = listener_tsn i };
@@ -89,35 +42,36 @@ body_of-body_bytes body mac fits =
       rwnd = rwnd i;
       to_caller = to_caller i;
       from_caller = from_caller i;
-      partial = partial i;
-      interleave = interleave i;
-      reset = reset i;
+      partial = options.partial i;
+      interleave = options.interleave i;
+      reset = options.reset i;
+      zero_checksum = options.checksum i;
     }
 
-pub has_form-body_bytes : (resets : Bool) (body : Body) (mac : List ℕ) → is_made resets body ≡ true → length mac ≡ 32 → has_form resets (body_bytes body ++ mac) ≡ true
+pub has_form-body_bytes : (taken : CookieOptions) (body : Body) (mac : List ℕ) → is_made taken body ≡ true → length mac ≡ 32 → has_form taken (body_bytes body ++ mac) ≡ true
 unfolding body_bytes has_form
-has_form-body_bytes resets body mac made size = rw (size, at_most resets body.partial body.interleave body.reset made) refl
+has_form-body_bytes taken body mac made size = rw (size, said_only taken body made) refl
 
 -- ---- what is read was written
 
 -- what the form says
-pub record FormFacts (resets : Bool) (bytes : List ℕ) : Type 0 where
+pub record FormFacts (taken : CookieOptions) (bytes : List ℕ) : Type 0 where
   pub size : length bytes ≡ 72
-  pub options : get_or bytes 36 0 ≤ cond resets 7 3
+  pub options : says_only taken (get_or bytes 36 0) ≡ true
   pub first_zero : get_or bytes 37 0 ≡ 0
   pub second_zero : get_or bytes 38 0 ≡ 0
   pub third_zero : get_or bytes 39 0 ≡ 0
 
-pub form_facts : (resets : Bool) (bytes : List ℕ) → has_form resets bytes ≡ true → FormFacts resets bytes
+pub form_facts : (taken : CookieOptions) (bytes : List ℕ) → has_form taken bytes ≡ true → FormFacts taken bytes
 unfolding has_form
-form_facts resets bytes form =
+form_facts taken bytes form =
     let e = and_parts _ _ form in
     let d = and_parts _ _ e.0 in
     let c = and_parts _ _ d.0 in
     let b = and_parts _ _ c.0 in
     record {
       size = eqb-true _ _ b.0;
-      options = leb-true _ _ b.1;
+      options = b.1;
       first_zero = eqb-true _ _ c.1;
       second_zero = eqb-true _ _ d.1;
       third_zero = eqb-true _ _ e.1;
@@ -143,47 +97,24 @@ body_of-IsInRange bytes are =
       counts = (big_from-lt 0 2 (drop 32 bytes) (AreBytes-drop 32 bytes are), big_from-lt 0 2 (drop 34 bytes) (AreBytes-drop 34 bytes are));
     }
 
--- a number within the form says stream reset only to a listener with it
-made_by : (resets : Bool) (n : ℕ) → n ≤ cond resets 7 3 → (resets || not (not (nat_eq (bit_and n 4) 0))) ≡ true
-made_by true n small = refl
-made_by false zero small = refl
-made_by false (suc zero) small = refl
-made_by false (suc (suc zero)) small = refl
-made_by false (suc (suc (suc zero))) small = refl
-made_by false (suc (suc (suc (suc n)))) small = absurd (omega arith)
-
-pub body_of-is_made : (resets : Bool) (bytes : List ℕ) → FormFacts resets bytes → is_made resets (body_of bytes) ≡ true
+pub body_of-is_made : (taken : CookieOptions) (bytes : List ℕ) → FormFacts taken bytes → is_made taken (body_of bytes) ≡ true
 unfolding body_of
-body_of-is_made resets bytes facts = made_by resets (get_or bytes 36 0) facts.options
+body_of-is_made taken bytes facts = (only_made taken (get_or bytes 36 0) facts.options).1
 
--- a content without stream reset is its body
-pub without_reset : (c : CookieContent) → is_made false (content_meaning c) ≡ true → body_meaning c.body ≡ content_meaning c
-without_reset c made = ap (λ (b : Bool). record (body_meaning c.body) { reset = b }) (off c.reset made)
+-- a content without stream reset and zero checksums is its body
+pub without_options : (c : CookieContent) → is_made no_options (content_meaning c) ≡ true → body_meaning c.body ≡ content_meaning c
+without_options c made =
+    let off = and_parts _ _ made in
+    λ i. record (body_meaning c.body) { reset = no c.reset off.0 i; zero_checksum = no c.zero_checksum off.1 i }
   where
-    off : (b : Bool) → not b ≡ true → false ≡ b
-    off true on = absurd (cc)
-    off false on = refl
-
-under_7 : (resets : Bool) (n : ℕ) → n ≤ cond resets 7 3 → n ≤ 7
-under_7 true n small = small
-under_7 false n small = omega (arith, small)
-
--- a number up to 7 from its three bits
-byte_again : (n : ℕ) → n ≤ 7 → cond (not (nat_eq (bit_and n 1) 0)) 1 0 + cond (not (nat_eq (bit_and n 2) 0)) 2 0 + cond (not (nat_eq (bit_and n 4) 0)) 4 0 ≡ n
-byte_again zero small = refl
-byte_again (suc zero) small = refl
-byte_again (suc (suc zero)) small = refl
-byte_again (suc (suc (suc zero))) small = refl
-byte_again (suc (suc (suc (suc zero)))) small = refl
-byte_again (suc (suc (suc (suc (suc zero))))) small = refl
-byte_again (suc (suc (suc (suc (suc (suc zero)))))) small = refl
-byte_again (suc (suc (suc (suc (suc (suc (suc zero))))))) small = refl
-byte_again (suc (suc (suc (suc (suc (suc (suc (suc n)))))))) small = absurd (omega arith)
+    no : (b : Bool) → not b ≡ true → false ≡ b
+    no true on = absurd (cc)
+    no false on = refl
 
 -- the options and the three zeros
-last_four : (resets : Bool) (bytes : List ℕ) → FormFacts resets bytes → options_byte (body_of bytes) ∷ 0 ∷ 0 ∷ 0 ∷ [] ≡ take 4 (drop 36 bytes)
+last_four : (taken : CookieOptions) (bytes : List ℕ) → FormFacts taken bytes → options_byte (body_of bytes) ∷ 0 ∷ 0 ∷ 0 ∷ [] ≡ take 4 (drop 36 bytes)
 unfolding body_of
-last_four resets bytes facts =
+last_four taken bytes facts =
     let size = facts.size in
     let first : drop 36 bytes ≡ get_or bytes 36 0 ∷ drop 37 bytes = drop_more bytes 36 0 (omega arith) in
     let second : drop 37 bytes ≡ get_or bytes 37 0 ∷ drop 38 bytes = drop_more bytes 37 0 (omega arith) in
@@ -191,7 +122,7 @@ last_four resets bytes facts =
     let fourth : drop 39 bytes ≡ get_or bytes 39 0 ∷ drop 40 bytes = drop_more bytes 39 0 (omega arith) in
     let end : take 4 (drop 36 bytes) ≡ get_or bytes 36 0 ∷ 0 ∷ 0 ∷ 0 ∷ [] =
     rw (first, second, third, fourth, facts.first_zero, facts.second_zero, facts.third_zero) refl in
-    ap (λ (n : ℕ). n ∷ 0 ∷ 0 ∷ 0 ∷ []) (byte_again (get_or bytes 36 0) (under_7 resets (get_or bytes 36 0) facts.options)) ∙ sym end
+    ap (λ (n : ℕ). n ∷ 0 ∷ 0 ∷ 0 ∷ []) (byte_again (get_or bytes 36 0) (only_made taken (get_or bytes 36 0) facts.options).0) ∙ sym end
 
 -- a list in the parts of the layout
 parts_of : (bytes : List ℕ)
@@ -201,10 +132,10 @@ parts_of : (bytes : List ℕ)
 parts_of bytes =
     rw (← take-add 8 2 bytes, ← take-add 10 2 bytes, ← take-add 12 4 bytes, ← take-add 16 4 bytes, ← take-add 20 4 bytes, ← take-add 24 4 bytes, ← take-add 28 4 bytes, ← take-add 32 2 bytes, ← take-add 34 2 bytes, ← take-add 36 4 bytes) refl
 
-pub body_bytes-body_of : (resets : Bool) (bytes : List ℕ) → AreBytes bytes → has_form resets bytes ≡ true → body_bytes (body_of bytes) ≡ take 40 bytes
+pub body_bytes-body_of : (taken : CookieOptions) (bytes : List ℕ) → AreBytes bytes → has_form taken bytes ≡ true → body_bytes (body_of bytes) ≡ take 40 bytes
 unfolding body_bytes body_of
-body_bytes-body_of resets bytes are form =
-    let facts = form_facts resets bytes form in
+body_bytes-body_of taken bytes are form =
+    let facts = form_facts taken bytes form in
     let size = facts.size in
     let made = big_bytes-number_8 bytes are (omega arith) in
     let listener_port = big_bytes-number_2 (drop 8 bytes) (AreBytes-drop 8 bytes are) (omega (arith, length-drop 8 bytes)) in
@@ -216,7 +147,7 @@ body_bytes-body_of resets bytes are form =
     let rwnd = big_bytes-number_4 (drop 28 bytes) (AreBytes-drop 28 bytes are) (omega (arith, length-drop 28 bytes)) in
     let to_caller = big_bytes-number_2 (drop 32 bytes) (AreBytes-drop 32 bytes are) (omega (arith, length-drop 32 bytes)) in
     let from_caller = big_bytes-number_2 (drop 34 bytes) (AreBytes-drop 34 bytes are) (omega (arith, length-drop 34 bytes)) in
-    let options = last_four resets bytes facts in
+    let options = last_four taken bytes facts in
     let joined : body_bytes (body_of bytes) ≡ take 8 bytes ++ take 2 (drop 8 bytes) ++ take 2 (drop 10 bytes) ++ take 4 (drop 12 bytes) ++ take 4 (drop 16 bytes)
     ++ take 4 (drop 20 bytes) ++ take 4 (drop 24 bytes) ++ take 4 (drop 28 bytes) ++ take 2 (drop 32 bytes) ++ take 2 (drop 34 bytes)
     ++ take 4 (drop 36 bytes)

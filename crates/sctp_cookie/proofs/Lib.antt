@@ -1,6 +1,7 @@
 pub mod PadLemmas
 pub mod Filling
 pub mod Numbers
+pub mod OptionLemmas
 pub mod BodyRoundTrip
 pub mod Comparing
 pub mod Opening

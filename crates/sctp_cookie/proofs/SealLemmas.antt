@@ -7,7 +7,7 @@ use Rattle.sctp_model.specs.numbers.Numbers.{AreBytes}
 use Rattle.sctp_model.specs.end.Sealing.{Body, IsInRange, Sealing}
 use Rattle.sctp_model.specs.world.Premises.{IsBody}
 use Rattle.sctp_cookie.specs.Hmac.{hmac}
-use Rattle.sctp_cookie.specs.CookieBody.{body_bytes, body_of, has_form}
+use Rattle.sctp_cookie.specs.CookieBody.{all_options, body_bytes, body_of, has_form}
 use Rattle.sctp_cookie.specs.Opens.{has_mac, sealed}
 use Rattle.sctp_cookie.specs.Seals.{opened, IsSealedWell, IsUnder, IsSealed, OpensTheSealed}
 use Rattle.sctp_cookie.proofs.BodyRoundTrip.{body_of-body_bytes, has_form-body_bytes, length-body_bytes}
@@ -28,7 +28,7 @@ is_sealed_well key body =
     let mac = hmac key (body_bytes body) in
     record {
       size = omega (arith, length-append (body_bytes body) mac, length-body_bytes body, length-hmac key (body_bytes body));
-      form = has_form-body_bytes true body mac refl (length-hmac key (body_bytes body));
+      form = has_form-body_bytes all_options body mac refl (length-hmac key (body_bytes body));
       mac = sealed-mac key body;
       holds = body_of-body_bytes body mac;
     }
@@ -53,7 +53,7 @@ unfolding sealing_under
 sealing-is_under key = record { seals = λ body. refl; opens = λ bytes. refl }
 
 -- what opens was sealed
-found : (key bytes : List ℕ) (form mac : Bool) → has_form true bytes ≡ form → has_mac key bytes ≡ mac → AreBytes bytes
+found : (key bytes : List ℕ) (form mac : Bool) → has_form all_options bytes ≡ form → has_mac key bytes ≡ mac → AreBytes bytes
     → IsBody (cond (form && mac) (Some (body_of bytes)) None) → IsSealed key bytes
 found key bytes true true f m are opens = (body_of bytes, cookie_read key bytes are f m)
 found key bytes true false f m are opens = absurd opens
@@ -63,5 +63,5 @@ pub opens_the_sealed : (key : List ℕ) (s : Sealing) → IsUnder key s → Open
 opens_the_sealed key s under = record {
   only = λ bytes are opens. found key bytes _ _ refl refl are (subst IsBody (under.opens bytes) opens);
   all = λ bytes (body, cookie).
-      rw (under.opens bytes, laid_out-form true bytes body (cookie-laid_out true key bytes body cookie refl), cookie-mac key bytes body cookie) tt;
+      rw (under.opens bytes, laid_out-form all_options bytes body (cookie-laid_out all_options key bytes body cookie refl), cookie-mac key bytes body cookie) tt;
 }

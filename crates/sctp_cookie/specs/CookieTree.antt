@@ -5,7 +5,7 @@ use Rattle.sctp_cookie.specs.declared.body.CookieBody.{CookieBody}
 use Rattle.sctp_cookie.specs.declared.body.CookieContent.{CookieContent}
 use Rattle.sctp_cookie.specs.declared.sealing.CookieFault.{CookieFault}
 
--- a cookie's body: one without stream reset
+-- a cookie's body: one without stream reset and zero checksums
 abbrev pub body_meaning : CookieBody → Body
 body_meaning b = record {
   made = b.made;
@@ -17,11 +17,12 @@ body_meaning b = record {
   partial = b.partial_reliability;
   interleave = b.interleaving;
   reset = false;
+  zero_checksum = false;
 }
 
--- a cookie's content: a body, with stream reset or without it
+-- a cookie's content: a body, with stream reset and zero checksums or without them
 abbrev pub content_meaning : CookieContent → Body
-content_meaning c = record (body_meaning c.body) { reset = c.reset }
+content_meaning c = record (body_meaning c.body) { reset = c.reset; zero_checksum = c.zero_checksum }
 
 -- what opening a cookie answers
 abbrev pub opened_meaning : Result CookieBody CookieFault → Result Body CookieFault

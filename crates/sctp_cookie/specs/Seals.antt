@@ -2,23 +2,24 @@
 use Rattle.std.specs.Prelude.{◌≡◌, ℕ, ◌&&◌, true, if◌then◌else◌, List, length, Option, Some, None, Result, Ok, Err}
 use Rattle.sctp_model.specs.numbers.Numbers.{AreBytes}
 use Rattle.sctp_model.specs.end.Sealing.{Body, IsInRange, COOKIE_SIZE, Sealing}
-use Rattle.sctp_model.specs.end.EndView.{EndView}
+use Rattle.sctp_model.specs.end.EndView.{Configuration, EndView}
 use Rattle.sctp_model.specs.end.Opening.{CookieRead, CookieOpens, CookieLate, Strange, cookie_read}
 use Rattle.sctp_model.specs.world.Premises.{IsBody}
-use Rattle.sctp_cookie.specs.CookieBody.{body_of, has_form}
+use Rattle.sctp_cookie.specs.CookieBody.{all_options, body_of, has_form}
 use Rattle.sctp_cookie.specs.Opens.{IsCookie, has_mac, open_answer, sealed}
+use Rattle.sctp_cookie.specs.declared.body.CookieOptions.{CookieOptions}
 use Rattle.sctp_cookie.specs.declared.body.Ports.{Ports}
 use Rattle.sctp_cookie.specs.declared.sealing.CookieFault.{CookieFault}
 use Rattle.sctp_cookie.specs.declared.sealing.CookieFault.TheVariants as fault
 
 -- the body in bytes that have a cookie's form and the right MAC
 abbrev pub opened : List ℕ → List ℕ → Option Body
-opened key bytes = if has_form true bytes && has_mac key bytes then Some (body_of bytes) else None
+opened key bytes = if has_form all_options bytes && has_mac key bytes then Some (body_of bytes) else None
 
 -- what a key seals has a cookie's size and form and the right MAC
 pub record IsSealedWell (key : List ℕ) (body : Body) : Type 0 where
   pub size : length (sealed key body) ≡ COOKIE_SIZE
-  pub form : has_form true (sealed key body) ≡ true
+  pub form : has_form all_options (sealed key body) ≡ true
   pub mac : has_mac key (sealed key body) ≡ true
   -- .. and holds the body, where each number has room in its field
   pub holds : IsInRange body → body_of (sealed key body) ≡ body
@@ -43,6 +44,10 @@ pub record OpensTheSealed (key : List ℕ) (s : Sealing) : Type 0 where
 abbrev pub ports_at : EndView → Ports
 ports_at e = record { listener = e.configuration.own_port; caller = e.configuration.peer_port }
 
+-- the options that it is set up with, of those that its cookies may say
+abbrev pub options_of : Configuration → CookieOptions
+options_of c = record { reset = c.reset; zero_checksum = c.zero_checksum }
+
 -- what a listener makes of a cookie that holds this body, where opening it is answered so (RFC 9260, 5.1.5)
 abbrev pub read_by : Body → Result Body CookieFault → CookieRead
 read_by held (Ok body) = CookieOpens body
@@ -52,7 +57,7 @@ read_by held (Err fault.Mac) = Strange
 read_by held (Err fault.Ports) = Strange
 read_by held (Err fault.Tag) = Strange
 
--- A listener with this key reads in these bytes, under this tag, what opening them is answered: with stream reset or without, as it is set up, at its moment and
+-- A listener with this key reads in these bytes, under this tag, what opening them is answered: with the options that it is set up with, at its moment and
 -- between its ports.
 abbrev pub IsReadAsOpened : (key bytes : List ℕ) (tag : ℕ) → Sealing → EndView → Type 0
-IsReadAsOpened key bytes tag s e = cookie_read s e tag bytes ≡ read_by (body_of bytes) (open_answer e.configuration.reset key bytes e.moment (ports_at e) tag)
+IsReadAsOpened key bytes tag s e = cookie_read s e tag bytes ≡ read_by (body_of bytes) (open_answer (options_of e.configuration) key bytes e.moment (ports_at e) tag)

@@ -12,14 +12,14 @@
 //! | 28 | 4 | caller's a_rwnd |
 //! | 32 | 2 | streams to the caller |
 //! | 34 | 2 | streams from the caller |
-//! | 36 | 1 | options: 1 partial reliability, 2 I-DATA, 4 stream reset, which only a [`CookieContent`] says |
+//! | 36 | 1 | options: 1 partial reliability, 2 I-DATA; 4 stream reset and 8 zero checksums, which only a [`CookieContent`] says |
 //! | 37 | 3 | zero |
 //!
 //! Numbers are in network byte order.
 
 ghost use Rattle.std.specs.Prelude.{◌≡◌, true, false, length, MatchOption, if◌then◌else◌};
 ghost use Rattle.sctp_model.specs.end.Sealing.{IsInRange};
-ghost use Rattle.sctp_cookie.specs.CookieBody.{body_bytes, body_of, has_form, options_byte};
+ghost use Rattle.sctp_cookie.specs.CookieBody.{body_bytes, body_of, has_form, options_byte, says, says_only};
 ghost use Rattle.sctp_cookie.specs.CookieTree.{content_meaning};
 
 use byteorder::{BigEndian, ByteOrder};
@@ -41,6 +41,12 @@ const INTERLEAVING: u8 = 2;
 
 /// The option of stream reset (RFC 6525), in the options' byte.
 const STREAM_RESET: u8 = 4;
+
+/// The option of zero checksums (RFC 9653), in the options' byte.
+const ZERO_CHECKSUM: u8 = 8;
+
+/// All options, in the options' byte.
+const ALL_OPTIONS: u8 = 15;
 
 /// The two ports of an association.
 #[derive(Clone, Copy, PartialEq, Eq)]
@@ -80,13 +86,24 @@ pub struct CookieBody {
     pub interleaving: bool,
 }
 
-/// What a listener with stream reset must remember from an INIT (RFC 9260, 5.1.3; RFC 6525, 5.1).
+/// What a listener with stream reset or with zero checksums must remember from an INIT (RFC 9260, 5.1.3; RFC 6525, 5.1; RFC 9653, 5).
 #[derive(Clone, Copy, Debug, PartialEq, Eq)]
 pub struct CookieContent {
-    /// What a listener without it must remember too.
+    /// What a listener without them must remember too.
     pub body: CookieBody,
     /// Whether both endpoints use stream reset (RFC 6525).
     pub reset: bool,
+    /// Whether both endpoints accept packets with the checksum 0 (RFC 9653).
+    pub zero_checksum: bool,
+}
+
+/// Which options a listener is set up with, of those that only a [`CookieContent`] says: it takes no cookie that says another.
+#[derive(Clone, Copy, Debug, PartialEq, Eq)]
+pub struct CookieOptions {
+    /// Stream reset (RFC 6525).
+    pub reset: bool,
+    /// Zero checksums (RFC 9653).
+    pub zero_checksum: bool,
 }
 
 /// The 40 bytes of a body.
@@ -117,6 +134,7 @@ fn options_byte(content: &CookieContent) -> u8
     option(content.body.partial_reliability, PARTIAL_RELIABILITY)
         + option(content.body.interleaving, INTERLEAVING)
         + option(content.reset, STREAM_RESET)
+        + option(content.zero_checksum, ZERO_CHECKSUM)
 }
 
 // An option's bit if it is used.
@@ -126,13 +144,14 @@ fn option(used: bool, bit: u8) -> u8
     if used { bit } else { 0 }
 }
 
-/// The body in the first 40 bytes of a cookie. None if these aren't 72 bytes of the layout, with
-/// stream reset or without it: the options are above 7 or 3, or a byte that must be zero isn't.
+/// The body in the first 40 bytes of a cookie. None if these aren't 72 bytes of the layout: its
+/// options say one that isn't in the layout, or that the listener isn't set up with, or a byte that
+/// must be zero isn't.
 #[tactic(auto, unfolding(crate::specs::CookieBody::has_form))]
-pub(crate) fn read_body(bytes: &[u8], resets: bool) -> Option<CookieContent>
-    ensures { MatchOption result (has_form resets bytes.now ≡ false) (λ content. (has_form resets bytes.now ≡ true) × (content_meaning content ≡ body_of bytes.now)) }
+pub(crate) fn read_body(bytes: &[u8], taken: CookieOptions) -> Option<CookieContent>
+    ensures { MatchOption result (has_form taken bytes.now ≡ false) (λ content. (has_form taken bytes.now ≡ true) × (content_meaning content ≡ body_of bytes.now)) }
 {
-    if has_form(bytes, resets) {
+    if has_form(bytes, taken) {
         Some(body_of(bytes))
     } else {
         None
@@ -141,25 +160,30 @@ pub(crate) fn read_body(bytes: &[u8], resets: bool) -> Option<CookieContent>
 
 // Whether these are 72 bytes whose options and zeros are as the layout has them.
 #[tactic(auto, unfolding(crate::specs::CookieBody::has_form))]
-fn has_form(bytes: &[u8], resets: bool) -> bool
-    ensures { result ≡ has_form resets bytes.now }
+fn has_form(bytes: &[u8], taken: CookieOptions) -> bool
+    ensures { result ≡ has_form taken bytes.now }
 {
     bytes.len() == COOKIE_LENGTH
-        && bytes[OPTIONS_AT] <= most_options(resets)
+        && says_only(bytes[OPTIONS_AT], taken)
         && bytes[37] == 0
         && bytes[38] == 0
         && bytes[39] == 0
 }
 
-// All options of the layout, with stream reset or without it.
-fn most_options(resets: bool) -> u8
-    ensures { result ≡ (if resets then 7 else 3) }
+// Whether an options' byte says no option but those of every listener, and those of this one.
+fn says_only(options: u8, taken: CookieOptions) -> bool
+    ensures { result ≡ says_only taken options }
 {
-    if resets {
-        PARTIAL_RELIABILITY + INTERLEAVING + STREAM_RESET
-    } else {
-        PARTIAL_RELIABILITY + INTERLEAVING
-    }
+    options <= ALL_OPTIONS
+        && (taken.reset || !says(options, STREAM_RESET))
+        && (taken.zero_checksum || !says(options, ZERO_CHECKSUM))
+}
+
+// Whether an options' byte says the option of this bit.
+fn says(options: u8, bit: u8) -> bool
+    ensures { result ≡ says bit options }
+{
+    options & bit != 0
 }
 
 // The body whose fields are in these bytes.
@@ -186,5 +210,6 @@ fn body_of(bytes: &[u8]) -> CookieContent
     CookieContent {
         body,
         reset: options & STREAM_RESET != 0,
+        zero_checksum: options & ZERO_CHECKSUM != 0,
     }
 }

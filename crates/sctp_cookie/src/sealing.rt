@@ -5,13 +5,15 @@ ghost use Rattle.std.specs.Str.{bytes_eq};
 ghost use Rattle.sctp_model.specs.numbers.Limits.{COOKIE_LIFE};
 ghost use Rattle.sctp_model.specs.end.Sealing.{Body, IsInRange};
 ghost use Rattle.sctp_model.specs.end.Opening.{age, staleness};
+ghost use Rattle.sctp_cookie.specs.declared.body.CookieOptions.{CookieOptions};
 ghost use Rattle.sctp_cookie.specs.declared.sealing.CookieFault.{CookieFault};
-ghost use Rattle.sctp_cookie.specs.CookieBody.{body_of};
+ghost use Rattle.sctp_cookie.specs.CookieBody.{body_of, no_options};
 ghost use Rattle.sctp_cookie.specs.CookieTree.{body_meaning, content_meaning, content_opened, opened_meaning};
 ghost use Rattle.sctp_cookie.specs.Opens.{Opened, has_mac, is_made, open_answer, ports_of, sealed};
 
 use crate::body::{
-    BODY_LENGTH, COOKIE_LENGTH, CookieBody, CookieContent, Ports, body_bytes, read_body,
+    BODY_LENGTH, COOKIE_LENGTH, CookieBody, CookieContent, CookieOptions, Ports, body_bytes,
+    read_body,
 };
 use crate::hmac::{Key, hmac_sha256};
 use sctp_values::COOKIE_LIFE;
@@ -20,8 +22,8 @@ use thiserror::Error;
 /// Why a cookie isn't valid: the first check that fails, in this order.
 #[derive(Clone, Copy, Debug, PartialEq, Eq, Error)]
 pub enum CookieFault {
-    /// These aren't 72 bytes of the layout, with stream reset or without it: the options are above 7
-    /// or 3, or a byte that must be zero isn't.
+    /// These aren't 72 bytes of the layout: the options say one that isn't in it, or that the listener
+    /// isn't set up with, or a byte that must be zero isn't.
     #[error("these bytes don't have the layout of a cookie")]
     Form,
     /// The last 32 bytes aren't the MAC of the first 40 under the key.
@@ -44,9 +46,9 @@ pub enum CookieFault {
 pub fn seal(key: &Key, body: &CookieBody) -> [u8; COOKIE_LENGTH]
     ensures sealed { result ≡ sealed key.now (body_meaning body.now) }
 
-    // It opens to this body until its lifetime ends, at a listener with stream reset and at one without.
-    ensures opens { (resets : Bool) (now : ℕ) → now ≤ body.now.made + COOKIE_LIFE
-        → open_answer resets key.now result now (ports_of (body_meaning body.now)) body.now.listener_tag ≡ Ok (body_meaning body.now) }
+    // It opens to this body until its lifetime ends, at every listener.
+    ensures opens { (taken : CookieOptions) (now : ℕ) → now ≤ body.now.made + COOKIE_LIFE
+        → open_answer taken key.now result now (ports_of (body_meaning body.now)) body.now.listener_tag ≡ Ok (body_meaning body.now) }
 
     // No other body has this sealing.
     ensures one { (other : Body) → IsInRange other → result ≡ sealed key.now other → other ≡ body_meaning body.now }
@@ -54,19 +56,20 @@ pub fn seal(key: &Key, body: &CookieBody) -> [u8; COOKIE_LENGTH]
     let content = CookieContent {
         body: *body,
         reset: false,
+        zero_checksum: false,
     };
     seal_content(key, &content)
 }
 
-/// The cookie of a listener with stream reset: the content's 40 bytes under `key` and their MAC (RFC
-/// 9260, 5.1.3). For a content without it these are the bytes of [`seal`].
+/// The cookie of a listener with stream reset or zero checksums: the content's 40 bytes under `key` and
+/// their MAC (RFC 9260, 5.1.3). For a content without them these are the bytes of [`seal`].
 pub fn seal_content(key: &Key, content: &CookieContent) -> [u8; COOKIE_LENGTH]
     ensures sealed { result ≡ sealed key.now (content_meaning content.now) }
 
-    // It opens to this content until its lifetime ends, at a listener with stream reset, and without
-    // it if the content is.
-    ensures opens { (resets : Bool) (now : ℕ) → is_made resets (content_meaning content.now) ≡ true → now ≤ content.now.body.made + COOKIE_LIFE
-        → open_answer resets key.now result now (ports_of (content_meaning content.now)) content.now.body.listener_tag ≡ Ok (content_meaning content.now) }
+    // It opens to this content until its lifetime ends, at a listener with the options that the
+    // content says.
+    ensures opens { (taken : CookieOptions) (now : ℕ) → is_made taken (content_meaning content.now) ≡ true → now ≤ content.now.body.made + COOKIE_LIFE
+        → open_answer taken key.now result now (ports_of (content_meaning content.now)) content.now.body.listener_tag ≡ Ok (content_meaning content.now) }
 
     // No other content has this sealing.
     ensures one { (other : Body) → IsInRange other → result ≡ sealed key.now other → other ≡ content_meaning content.now }
@@ -81,7 +84,7 @@ pub fn seal_content(key: &Key, content: &CookieContent) -> [u8; COOKIE_LENGTH]
 /// The body of a cookie that was received in a COOKIE ECHO (RFC 9260, 5.1.5) at the time `now`, in
 /// milliseconds of the clock by which it was made, in a packet between `ports` with the
 /// verification tag `tag`. The packet's source is the caller's port and its destination the
-/// listener's, which is set up without stream reset.
+/// listener's, which is set up without stream reset and zero checksums.
 ///
 /// # Errors
 ///
@@ -94,26 +97,30 @@ pub fn open(
     tag: u32,
 ) -> Result<CookieBody, CookieFault>
     // The first check that fails, or the body.
-    ensures answer { opened_meaning result ≡ open_answer false key.now bytes.now now ports tag }
+    ensures answer { opened_meaning result ≡ open_answer no_options key.now bytes.now now ports tag }
 
     // It opens if the bytes are a body of the layout and its MAC, and the packet and the time
     // are right; each fault is returned if its check fails and those before it pass.
-    ensures meaning { Opened false key.now bytes.now now ports tag (opened_meaning result) }
+    ensures meaning { Opened no_options key.now bytes.now now ports tag (opened_meaning result) }
 
     // There is no other answer with that meaning.
-    ensures only { (outcome : Result Body CookieFault) → Opened false key.now bytes.now now ports tag outcome
+    ensures only { (outcome : Result Body CookieFault) → Opened no_options key.now bytes.now now ports tag outcome
         → opened_meaning result ≡ outcome }
 
     // A stale cookie's body is what is returned at time 0.
     ensures stale { (microseconds : ℕ) → result ≡ Err (CookieFault.Stale microseconds)
-        → open_answer false key.now bytes.now 0 ports tag ≡ Ok (body_of bytes.now) }
+        → open_answer no_options key.now bytes.now 0 ports tag ≡ Ok (body_of bytes.now) }
 {
-    let content = open_content(key, bytes, now, ports, tag, false)?;
+    let taken = CookieOptions {
+        reset: false,
+        zero_checksum: false,
+    };
+    let content = open_content(key, bytes, now, ports, tag, taken)?;
     Ok(content.body)
 }
 
-/// The content of a cookie, as [`open`] has it, at a listener that is set up with stream reset if
-/// `resets`, and without it otherwise.
+/// The content of a cookie, as [`open`] has it, at a listener that is set up with the options
+/// `taken`.
 ///
 /// # Errors
 ///
@@ -124,24 +131,24 @@ pub fn open_content(
     now: u64,
     ports: Ports,
     tag: u32,
-    resets: bool,
+    taken: CookieOptions,
 ) -> Result<CookieContent, CookieFault>
     // The first check that fails, or the content.
-    ensures answer { content_opened result ≡ open_answer resets key.now bytes.now now ports tag }
+    ensures answer { content_opened result ≡ open_answer taken key.now bytes.now now ports tag }
 
     // It opens if the bytes are a body of the layout and its MAC, and the packet and the time
     // are right; each fault is returned if its check fails and those before it pass.
-    ensures meaning { Opened resets key.now bytes.now now ports tag (content_opened result) }
+    ensures meaning { Opened taken key.now bytes.now now ports tag (content_opened result) }
 
     // There is no other answer with that meaning.
-    ensures only { (outcome : Result Body CookieFault) → Opened resets key.now bytes.now now ports tag outcome
+    ensures only { (outcome : Result Body CookieFault) → Opened taken key.now bytes.now now ports tag outcome
         → content_opened result ≡ outcome }
 
     // A stale cookie's content is what is returned at time 0.
     ensures stale { (microseconds : ℕ) → result ≡ Err (CookieFault.Stale microseconds)
-        → open_answer resets key.now bytes.now 0 ports tag ≡ Ok (body_of bytes.now) }
+        → open_answer taken key.now bytes.now 0 ports tag ≡ Ok (body_of bytes.now) }
 {
-    checked_content(key, bytes, now, ports, tag, resets)
+    checked_content(key, bytes, now, ports, tag, taken)
 }
 
 // The checks of `open`, in their order.
@@ -152,11 +159,11 @@ fn checked_content(
     now: u64,
     ports: Ports,
     tag: u32,
-    resets: bool,
+    taken: CookieOptions,
 ) -> Result<CookieContent, CookieFault>
-    ensures { content_opened result ≡ open_answer resets key.now bytes.now now ports tag }
+    ensures { content_opened result ≡ open_answer taken key.now bytes.now now ports tag }
 {
-    let Some(content) = read_body(bytes, resets) else {
+    let Some(content) = read_body(bytes, taken) else {
         return Err(CookieFault::Form);
     };
     let body = content.body;

@@ -1,6 +1,6 @@
 -- What the endpoint's calls make of a session.
 use Rattle.std.proofs.Common.{◌≡◌, ◌∙◌, ℕ, Bool, true, false, List, [], ◌∷◌, ◌⊎◌, inl, inr, None, refl, sym, ap, subst}
-use Rattle.std.specs.Prelude.{not, max, length, Option, Some, None, Result, Ok, Err, slice_get}
+use Rattle.std.specs.Prelude.{not, ◌||◌, max, length, Option, Some, None, Result, Ok, Err, slice_get}
 use Rattle.std.specs.declared.vec.Vec.{Vec}
 use Rattle.std.specs.declared.alloc.Global.{Global}
 use Rattle.sctp_model.specs.numbers.Numbers.{AreBytes}
@@ -18,17 +18,18 @@ use Rattle.sctp_model.specs.end.Strays as strays
 use Rattle.sctp_model.specs.end.Building.{Builds, packet_of}
 use Rattle.sctp_model.specs.end.Moments.{ticked}
 use Rattle.sctp_model.specs.end.UserCalls as model
-use Rattle.sctp_model.specs.end.UserCalls.{is_established, send_answer, send_leaves, abort_leaves, UserTakes}
+use Rattle.sctp_model.specs.end.UserCalls.{is_established, send_answer, send_leaves, abort_leaves, is_update, updating, UserTakes}
 use Rattle.sctp_values.specs.declared.kind.Kind.{Kind}
 use Rattle.sctp_values.specs.declared.no_memory.NoMemory.{NoMemory}
 use Rattle.sctp_values.specs.declared.ticket.Ticket.{Ticket}
 use Rattle.sctp_values.specs.Meanings.{kind_meaning}
 use Rattle.sctp_terms.specs.declared.reason.Reason.{Reason}
+use Rattle.sctp_terms.specs.PlainOptions.{HasPlainOptions}
 use Rattle.sctp_packet.specs.declared.fault.PacketFault.{PacketFault}
 use Rattle.sctp_packet.specs.PacketLaws.{ReadInOneWay}
 use Rattle.sctp_packet.specs.PacketBytes.{ReadsPacket, FaultsPacket, WritesPacket}
 use Rattle.sctp_send.specs.SenderAnswers.{lane_for}
-use Rattle.sctp_send.specs.declared.fill.sendings.Sendings.{Sendings}
+use Rattle.sctp_association.specs.declared.build.sendings.Sendings.{Sendings}
 use Rattle.sctp_association.specs.AbortAnswers.{AbortAnswers, aborted_view}
 use Rattle.sctp_association.specs.CallAnswers.{call_of, SendAnswers, sent_view}
 use Rattle.sctp_association.specs.Sends.{Sends}
@@ -81,8 +82,19 @@ none_left : (xs : List Handed) → slice_get xs 0 ≡ None → xs ≡ []
 none_left [] is = refl
 none_left (x ∷ xs) is = cc
 
-pub nothing_waits : (v : EndView) (stream : ℕ) → slice_get (v.receiver.waiting stream) 0 ≡ None → UserTakes v stream None v
-nothing_waits v stream is = record { receiver = v.receiver; takes = (none_left _ is, refl); leaves = refl }
+-- no SACK is due by it, if options are plain
+unupdating : (v : EndView) → HasPlainOptions v.configuration → updating v ≡ v
+unupdating v o = ap (λ (b : Bool). record v { due = record v.due { sack = b } }) (ap (λ (b : Bool). v.due.sack || b) none ∙ or_none v.due.sack)
+  where
+    none : is_update v ≡ false
+    none = rw o.updates refl
+
+    or_none : (b : Bool) → (b || false) ≡ b
+    or_none true = refl
+    or_none false = refl
+
+pub nothing_waits : (v : EndView) (stream : ℕ) → HasPlainOptions v.configuration → slice_get (v.receiver.waiting stream) 0 ≡ None → UserTakes v stream None v
+nothing_waits v stream o is = record { receiver = v.receiver; takes = (none_left _ is, refl); leaves = sym (unupdating v o) }
 
 -- ---- what is counted
 

@@ -1,7 +1,7 @@
 -- What the calls that handle or make packets add to what an endpoint counted, by their answers. Other calls add nothing.
 use Rattle.std.specs.Prelude.{ℕ, length}
 use Rattle.sctp_model.specs.end.EndView.{EndView}
-use Rattle.sctp_send.specs.declared.fill.sendings.Sendings.{Sendings}
+use Rattle.sctp_association.specs.declared.build.sendings.Sendings.{Sendings}
 use Rattle.sctp_endpoint.specs.Counted.{Counted, with_packet, with_sack, sack_went, with_sendings, with_arrival, told_counts}
 use Rattle.sctp_endpoint.specs.declared.after.Verdict.TheVariants as verdict
 use Rattle.sctp_end.specs.declared.reply.Reply.{Reply}

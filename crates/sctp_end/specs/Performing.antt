@@ -25,7 +25,7 @@ use Rattle.sctp_terms.specs.Meanings.{end_meaning, state_meaning, reason_code}
 use Rattle.sctp_packet.specs.PacketBytes.{WritesPacket}
 use Rattle.sctp_send.specs.declared.abandon.Abandoned.{Abandoned as Fates}
 use Rattle.sctp_send.specs.SenderAnswers.{answer_meaning, abandoned_messages}
-use Rattle.sctp_send.specs.declared.fill.sendings.Sendings.{Sendings}
+use Rattle.sctp_association.specs.declared.build.sendings.Sendings.{Sendings}
 use Rattle.sctp_association.specs.declared.user.path.Path.{Path}
 use Rattle.sctp_association.specs.PathAnswers.{PathAnswer}
 use Rattle.sctp_association.specs.Sends as sendings

@@ -166,7 +166,11 @@ impl Session {
                 let _taken = self.endpoint.take(stream);
                 reply
             }
-            Ok(None) => Reply::Empty { stream },
+            Ok(None) => {
+                // By the clause of `limit` its options are plain, so that to take nothing changes nothing.
+                let _limit = self.endpoint.config().limit();
+                Reply::Empty { stream }
+            }
             Err(NoMemory) => Reply::NoMemory,
         }
     }

@@ -8,7 +8,7 @@ use Rattle.sctp_model.specs.end.Sealing.{Body, Sealing}
 use Rattle.sctp_model.specs.end.EndView.{EndView}
 use Rattle.sctp_model.specs.end.Strays.{holds_abort, listens, body_in, body_among}
 use Rattle.sctp_values.specs.declared.no_memory.NoMemory.{NoMemory}
-use Rattle.sctp_send.specs.declared.fill.sendings.Sendings.{Sendings}
+use Rattle.sctp_association.specs.declared.build.sendings.Sendings.{Sendings}
 use Rattle.sctp_association.specs.MachineStands.{MachineStands}
 use Rattle.sctp_association.specs.BuildAnswers.{IsBuilt}
 use Rattle.sctp_association.specs.declared.build.Built.{Built}

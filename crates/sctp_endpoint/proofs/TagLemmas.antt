@@ -13,7 +13,8 @@ use Rattle.sctp_model.specs.end.Reports.{with_causes}
 use Rattle.sctp_model.specs.end.Closing.{rested}
 use Rattle.sctp_model.specs.end.PeerFaults.{FAULT, PORTS, TAG, STATE, COOKIE, Unnoted, After, GoesOn, Ends, PassedOver, Replies, Drops}
 use Rattle.sctp_model.specs.end.Opening.{begun, InitAckActs, NotCalling, NoTag, RefusedAck, AcceptedAck, EchoActs, NotHere, EchoedAgain, IsStrange, CookieAckActs, NotEchoing, CookieAcked}
-use Rattle.sctp_model.specs.end.Acting.{Acts, PieceActs, PieceNotHeard, PieceEmpty, WrongFormat, PieceComes, ForwardActs, ForwardNotHeard, WrongKind, IsBad, IsOld, ForwardComes, SackActs, SackNotHeard, SackStale, SackWrong, SackCounts, HeartbeatActs, HeartbeatNotHeard, HeartbeatCounts, ErrorActs, Closes, SaysNothing, ShutdownActs, ShutdownNotOpen, ShutdownWrong, ShutdownStale, ShutdownCounts, Crosses, Again, ShutdownAckActs, AckNotAwaited, AckCompletes, CompleteActs, CompleteNotAwaited, CompleteCompleted, unknown_leaves, unknown_causes, unknown_acts, OtherActs, ReconfigComes, IsUnknown}
+use Rattle.sctp_model.specs.end.Acting.{Acts, PieceActs, PieceNotHeard, PieceEmpty, WrongFormat, Misnumbered, PieceComes, ForwardActs, ForwardNotHeard, WrongKind, IsBad, IsOld, ForwardComes, SackActs, SackNotHeard, SackStale, SackWrong, SackCounts, HeartbeatActs, HeartbeatNotHeard, HeartbeatCounts, ErrorActs, Closes, SaysNothing, ShutdownActs, ShutdownNotOpen, ShutdownWrong, ShutdownStale, ShutdownCounts, Crosses, Again, ShutdownAckActs, AckNotAwaited, AckCompletes, CompleteActs, CompleteNotAwaited, CompleteCompleted, unknown_leaves, unknown_causes, unknown_acts, OtherActs, ReconfigComes, IsUnknown}
+use Rattle.sctp_model.specs.end.Beating.{beat_heard}
 use Rattle.sctp_model.specs.end.Passing.{has_ports, passes}
 use Rattle.sctp_model.specs.end.Strays.{Verdict, Taken, Dropped, Answer, opened_by, stray_verdict}
 use Rattle.sctp_model.specs.end.Arriving.{AllAct, NoneLeft, Next, Passes, Last, EndsAnswered, Stopped, Arrives, Elsewhere, NotOurs, Stray, CookieBegins, Heard, Notes, noted, no_notes, verdict_of, is_answer, Receives, ReadAs, WantsNoMemory}
@@ -97,7 +98,8 @@ late_piece : (f : Format) (e : EndView) (p : PieceMeaning) (a : After) → Piece
 late_piece f e p a (PieceNotHeard _) = tt
 late_piece f e p a (PieceEmpty _ _ _ _ _) = tt
 late_piece f e p a (WrongFormat _ _ _ _ _ _) = tt
-late_piece f e p a (PieceComes _ _ _ _ _ _ _ _ _) = tt
+late_piece f e p a (Misnumbered _ _ _ _ _ _ _ _ _) = tt
+late_piece f e p a (PieceComes _ _ _ _ _ _ _ _ _ _) = tt
 
 late_forward : (f : Format) (e : EndView) (m : ForwardMeaning) (a : After) → ForwardActs f e m a → LeavesLate a
 late_forward f e m a (ForwardNotHeard _) = tt
@@ -155,7 +157,7 @@ late_chunk e tag (Init m) a tagged acts = late_as a PassedOver acts tt
 late_chunk e tag (InitAck m) a tagged acts = late_ack e m a tagged acts
 late_chunk e tag (Sack s) a tagged acts = late_sack e s a acts
 late_chunk e tag (Heartbeat info) a tagged acts = late_heartbeat e info a acts
-late_chunk e tag (HeartbeatAck info) a tagged acts = late_as a (GoesOn Unnoted e) acts tt
+late_chunk e tag (HeartbeatAck info) a tagged acts = late_as a (GoesOn Unnoted (beat_heard e info)) acts tt
 late_chunk e tag (Abort t causes) a tagged acts = late_as a (Ends (closed Aborted e)) acts tt
 late_chunk e tag (Shutdown tsn) a tagged acts = late_shutdown e tsn a acts
 late_chunk e tag ShutdownAck a tagged acts = late_shutdown_ack e a acts

@@ -1,8 +1,8 @@
 -- A packet whose chunks missed nothing gives up nothing.
 use Rattle.std.proofs.Common.{◌≡◌, ℕ, ◌&&◌, nat_lt, Bool, true, false, Option, None, Some, if◌then◌else◌, refl, ap, arith}
 use Rattle.std.proofs.lemmas.Bool.Decides.{nat_tests}
-use Rattle.std.specs.Prelude.{nat_le}
 use Rattle.sctp_model.specs.sender.Abandoning.{worn}
+use Rattle.sctp_model.specs.end.Misses.{is_missed}
 use Rattle.sctp_model.specs.end.Pacing.{Pace}
 use Rattle.sctp_model.specs.end.EndView.{EndView}
 use Rattle.sctp_model.specs.end.Closing.{hears}
@@ -19,5 +19,4 @@ none_missed v = by v.pace
     by : (o : Option Pace) → worn_since o (missed_below o) v ≡ v
     by None = refl
     by (Some p) =
-        let n = p.misses.passed in
-        ap (λ (b : Bool). if b && hears (λ g. true) v.phase then after_abandoning v (worn (λ i. nat_le n i && nat_lt i n) v.sender) else v) (not_below n)
+        ap (λ (b : Bool). if b && hears (λ g. true) v.phase then after_abandoning v (worn (is_missed p.misses) v.sender) else v) (not_below p.misses.third)

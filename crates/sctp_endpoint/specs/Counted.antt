@@ -9,7 +9,7 @@ use Rattle.sctp_model.specs.end.EndView.{EndView}
 use Rattle.sctp_model.specs.end.Building.{Builds, packet_of}
 use Rattle.sctp_values.specs.declared.no_memory.NoMemory.{NoMemory}
 use Rattle.sctp_packet.specs.PacketBytes.{WritesPacket}
-use Rattle.sctp_send.specs.declared.fill.sendings.Sendings.{Sendings}
+use Rattle.sctp_association.specs.declared.build.sendings.Sendings.{Sendings}
 use Rattle.sctp_association.specs.Sends.{Sends}
 use Rattle.sctp_terms.specs.declared.reason.Reason.{Reason}
 use Rattle.sctp_terms.specs.declared.reason.Reason.TheVariants.{Fault, Ports, Tag, State, Cookie}

@@ -19,7 +19,7 @@ use crate::opening::{on_cookie_ack, on_cookie_echo, on_init_ack};
 use crate::pieces::on_piece;
 use crate::sacks::on_sack;
 use crate::shutdowns::on_shutdown;
-use crate::small::{on_heartbeat, on_unknown};
+use crate::small::{on_heartbeat, on_heartbeat_ack, on_unknown};
 use sctp_association::Machine;
 use sctp_terms::Reason;
 use sctp_values::NoMemory;
@@ -42,7 +42,7 @@ fn act(machine: &mut Machine, tag: u32, chunk: &Chunk<'_>) -> Result<After, NoMe
         Chunk::InitAck(ack) => on_init_ack(machine, ack),
         Chunk::Sack(sack) => on_sack(machine, sack),
         Chunk::Heartbeat { info } => on_heartbeat(machine, info),
-        Chunk::HeartbeatAck { .. } => Ok(After::GoesOn),
+        Chunk::HeartbeatAck { info } => Ok(on_heartbeat_ack(machine, info)),
         Chunk::Abort { .. } => Ok(on_abort(machine)),
         Chunk::Shutdown { cumulative } => on_shutdown(machine, *cumulative),
         Chunk::ShutdownAck => on_shutdown_ack(machine),

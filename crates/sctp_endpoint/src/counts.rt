@@ -4,7 +4,7 @@ ghost use Rattle.std.specs.Prelude.{◌≡◌, ◌&&◌, not, length, Ok};
 ghost use Rattle.sctp_endpoint.specs.Counted.{none_dropped, none_counted, dropped_meaning, tally_meaning, counts_meaning, with_packet, with_sack, with_sendings, with_arrival, with_reason, told_counts, heard_counts, aborted_counts};
 
 use crate::after::Verdict;
-use sctp_send::Sendings;
+use sctp_association::Sendings;
 use sctp_terms::{AbortFault, Reason};
 
 /// Packets that `Endpoint::handle_packet` dropped, by the reason of `Verdict::Dropped`. Each number is counted modulo 2^64.
@@ -156,13 +156,9 @@ impl Tally {
     pub(crate) fn send_chunks(&mut self, sendings: Sendings)
         ensures { tally_meaning self.new ≡ with_sendings sendings (tally_meaning self.old) }
     {
-        self.first_sent = self.first_sent.wrapping_add(u64::from(sendings.first));
-        self.timer_retransmitted = self
-            .timer_retransmitted
-            .wrapping_add(u64::from(sendings.timed));
-        self.fast_retransmitted = self
-            .fast_retransmitted
-            .wrapping_add(u64::from(sendings.missed));
+        self.first_sent = self.first_sent.wrapping_add(sendings.first);
+        self.timer_retransmitted = self.timer_retransmitted.wrapping_add(sendings.timed);
+        self.fast_retransmitted = self.fast_retransmitted.wrapping_add(sendings.missed);
     }
 
     /// `abort` returned its packet, or an error.

@@ -114,7 +114,7 @@ pub(crate) fn act_sack(
     ensures { (tag : ℕ) (v : EndView) → MachineStands machine.old v
         → ActsOne tag v notes.old (meaning.Sack (sack_meaning sack.now)) (told_by result told.new) machine.new notes.new }
 {
-    if !counts(machine, sack) {
+    if !counts(machine, sack)? {
         return act_uncounted(machine, notes, told, sack);
     }
     machine.advance_closing();

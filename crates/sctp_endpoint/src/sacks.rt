@@ -17,22 +17,26 @@ use sctp_wire::Sack;
 use sctp_wire::codes::PROTOCOL_VIOLATION;
 
 /// A SACK is received: true only if it counts, or is older than an earlier one and does nothing. Else nothing changed.
+///
+/// # Errors
+/// `NoMemory` if an allocation failed; nothing changed then.
 #[inline(always)]
-pub(crate) fn counts(machine: &mut Machine, sack: &Sack<'_>) -> bool
-    ensures heard { (v : EndView) → MachineStands machine.old v → result ≡ true
-        → (w : EndView) × SackActs v (sack_meaning sack.now) (GoesOn Unnoted w) × MachineStands machine.new w }
-    ensures left { (v : EndView) → MachineStands machine.old v → result ≡ false → MachineStands machine.new v }
+pub(crate) fn counts(machine: &mut Machine, sack: &Sack<'_>) -> Result<bool, NoMemory>
+    ensures heard { (v : EndView) → MachineStands machine.old v → IfOk result (λ counts. counts ≡ true
+        → (w : EndView) × SackActs v (sack_meaning sack.now) (GoesOn Unnoted w) × MachineStands machine.new w) }
+    ensures left { (v : EndView) → MachineStands machine.old v → IfOk result (λ counts. counts ≡ false → MachineStands machine.new v) }
+    ensures refused { (v : EndView) → MachineStands machine.old v → OnErr result (MachineStands machine.new v) }
 {
     let Some(opened) = machine.opened() else {
-        return false;
+        return Ok(false);
     };
     if !is_established(opened.stage) {
-        return false;
+        return Ok(false);
     }
-    match machine.hear_sack(sack) {
-        Ok(()) => true,
-        Err(SackFault::Stale) => true,
-        Err(_) => false,
+    match machine.hear_sack(sack)? {
+        Ok(()) => Ok(true),
+        Err(SackFault::Stale) => Ok(true),
+        Err(_) => Ok(false),
     }
 }
 
@@ -52,7 +56,7 @@ pub(crate) fn on_sack(machine: &mut Machine, sack: &Sack<'_>) -> Result<After, N
         return Ok(After::PassedOver);
     }
     let peer = opened.tags.peer;
-    match machine.hear_sack(sack) {
+    match machine.hear_sack(sack)? {
         Ok(()) => Ok(After::GoesOn),
         Err(SackFault::Stale) => Ok(After::GoesOn),
         Err(SackFault::Beyond) => {

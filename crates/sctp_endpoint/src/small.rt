@@ -1,7 +1,7 @@
 //! HEARTBEAT chunks, and chunks of an unrecognized type (RFC 9260, 3.2 and 8.3).
 
 ghost use Rattle.std.specs.Prelude.{◌≡◌, ℕ, Bool, ◌&&◌, if◌then◌else◌, IfOk, OnOk, OnErr};
-ghost use Rattle.sctp_model.specs.wire.Chunk.{Unknown};
+ghost use Rattle.sctp_model.specs.wire.Chunk.{HeartbeatAck, Unknown};
 ghost use Rattle.sctp_model.specs.end.EndView.{EndView};
 ghost use Rattle.sctp_model.specs.end.Reports.{causes_with, with_causes};
 ghost use Rattle.sctp_model.specs.end.Acting.{Acts, HeartbeatActs, may_report, unknown_item};
@@ -26,6 +26,14 @@ pub(crate) fn on_heartbeat(machine: &mut Machine, info: &[u8]) -> Result<After, 
     }
     machine.hear_heartbeat(info)?;
     Ok(After::GoesOn)
+}
+
+/// A HEARTBEAT ACK is received: it goes on (RFC 9260, 8.3).
+pub(crate) fn on_heartbeat_ack(machine: &mut Machine, info: &[u8]) -> After
+    ensures { (v : EndView) (tag : ℕ) → MachineStands machine.old v → Left result v (Acts v tag (HeartbeatAck info.now)) machine.new }
+{
+    machine.hear_heartbeat_ack(info);
+    After::GoesOn
 }
 
 /// A chunk of a type without a case of its own: a RE-CONFIG acts by its parameters if that was agreed on (RFC 6525, 5.2). Any other type is

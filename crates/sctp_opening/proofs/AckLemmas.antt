@@ -7,7 +7,7 @@ use Rattle.sctp_model.specs.end.Sealing.{Sealing}
 use Rattle.sctp_model.specs.end.EndView.{Configuration, Draw, EndView}
 use Rattle.sctp_model.specs.end.Reports.{item, as_fit, INVALID_PARAMETER}
 use Rattle.sctp_model.specs.end.PeerFaults.{packet_to, abort_for}
-use Rattle.sctp_model.specs.end.Options.{STATE_COOKIE, own_options, reports_of}
+use Rattle.sctp_model.specs.end.Options.{STATE_COOKIE, own_options, reports_of, said_to}
 use Rattle.sctp_model.specs.end.Opening.{introduction, body_for, init_ack, has_no_stream}
 use Rattle.sctp_model.specs.end.Strays.{Answer, init_verdict}
 use Rattle.sctp_opening.specs.Room.{size_alone}
@@ -20,10 +20,10 @@ pub record HasParameterRoom (limit most : ℕ) : Type 0 where
 
 -- the parameters of the INIT ACK: cookie, options, and the reports that go in behind them
 pub init_ack-is : (s : Sealing) (e : EndView) (d : Draw) (m : InitMeaning) (most : ℕ) (bytes : List ℕ) → HasParameterRoom e.configuration.limit most
-    → bytes ≡ all_within most (written_typed (item STATE_COOKIE (s.sealed (body_for e d m)) ∷ own_options e.configuration)) (reports_of (parameters_reported (typed_in m.parameters)))
+    → bytes ≡ all_within most (written_typed (item STATE_COOKIE (s.sealed (body_for e d m)) ∷ own_options (said_to e.configuration m.parameters))) (reports_of (parameters_reported (typed_in m.parameters)))
     → InitAck (introduction e.configuration d bytes) ≡ init_ack s e d m
 init_ack-is s e d m most bytes room are =
-    let front = item STATE_COOKIE (s.sealed (body_for e d m)) ∷ own_options e.configuration in
+    let front = item STATE_COOKIE (s.sealed (body_for e d m)) ∷ own_options (said_to e.configuration m.parameters) in
     let reports = reports_of (parameters_reported (typed_in m.parameters)) in
     let whole : List Typed → List ℕ = λ xs. written_typed (front ++ xs) in
     let same = as_fit-same (λ xs. nat_le (length (whole xs)) most) (λ xs. nat_le (size_alone (20 + length (whole xs))) e.configuration.limit) [] reports (λ xs. sym (room.exact (length (whole xs)))) in

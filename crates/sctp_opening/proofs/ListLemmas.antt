@@ -6,6 +6,7 @@ use Rattle.sctp_model.specs.wire.Typed.{Typed, WritesTyped, are_typed, AreAsWrit
 use Rattle.sctp_model.specs.end.EndView.{Configuration}
 use Rattle.sctp_model.specs.wire.Reconfig.{RECONFIG}
 use Rattle.sctp_model.specs.end.Options.{STATE_COOKIE, SUPPORTED_EXTENSIONS, FORWARD_TSN_SUPPORTED, own_extensions, unless_empty, own_options}
+use Rattle.sctp_model.specs.end.Options.{ZERO_CHECKSUM, OVER_DTLS, said_to}
 use Rattle.sctp_model.specs.end.Reports.{item}
 use Rattle.sctp_model.proofs.TypedLemmas.{length-item, typed_of-reads}
 use Rattle.sctp_model.proofs.TypedWriting.{reads_writes_typed, writes_as_written}
@@ -85,9 +86,16 @@ extensions_short false true false = omega arith
 extensions_short false false true = omega arith
 extensions_short false false false = omega arith
 
-listed_short : (xs : List ℕ) → length xs ≤ 4 → length (written_typed (unless_empty xs)) ≤ 8
-listed_short [] short = omega arith
-listed_short (x ∷ xs) short = let size = one_more (item SUPPORTED_EXTENSIONS (x ∷ xs)) [] in omega arith
+checksum_short : (zero : Bool) → length (written_typed (cond zero (item ZERO_CHECKSUM OVER_DTLS ∷ []) [])) ≤ 8
+checksum_short true = one_more (item ZERO_CHECKSUM OVER_DTLS) []
+checksum_short false = omega arith
+
+listed_short : (zero : Bool) (xs : List ℕ) → length xs ≤ 4 → length (written_typed (unless_empty xs ++ cond zero (item ZERO_CHECKSUM OVER_DTLS ∷ []) [])) ≤ 16
+listed_short zero [] short = let last = checksum_short zero in omega arith
+listed_short zero (x ∷ xs) short =
+    let last = checksum_short zero in
+    let size = one_more (item SUPPORTED_EXTENSIONS (x ∷ xs)) (cond zero (item ZERO_CHECKSUM OVER_DTLS ∷ []) []) in
+    omega arith
 
 behind_partial : (partial : Bool) (xs : List Typed)
     → length (written_typed (cond partial (item FORWARD_TSN_SUPPORTED [] ∷ []) [] ++ xs)) ≤ 4 + length (written_typed xs)
@@ -95,16 +103,22 @@ behind_partial true xs = one_more (item FORWARD_TSN_SUPPORTED []) xs
 behind_partial false xs = omega arith
 
 -- an end's options
-pub options_short : (c : Configuration) → length (written_typed (own_options c)) ≤ 12
+pub options_short : (c : Configuration) → length (written_typed (own_options c)) ≤ 20
 options_short c =
-    let list = listed_short (own_extensions c) (extensions_short c.partial c.interleave c.reset) in
-    let whole = behind_partial c.partial (unless_empty (own_extensions c)) in
+    let list = listed_short c.zero_checksum (own_extensions c) (extensions_short c.partial c.interleave c.reset) in
+    let whole = behind_partial c.partial (unless_empty (own_extensions c) ++ cond c.zero_checksum (item ZERO_CHECKSUM OVER_DTLS ∷ []) []) in
     omega arith
 
 -- a cookie and the options behind it
 pub front_short : (c : Configuration) (cookie : List ℕ) → length cookie ≡ 72
-    → length (written_typed (item STATE_COOKIE cookie ∷ own_options c)) ≤ 88
+    → length (written_typed (item STATE_COOKIE cookie ∷ own_options c)) ≤ 96
 front_short c cookie size =
     let first = one_more (item STATE_COOKIE cookie) (own_options c) in
     let others = options_short c in
     omega arith
+
+-- ---- what an end says
+
+-- an end that isn't strict says all that it is set up for
+pub all_said : (c : Configuration) (asked : List ℕ) → c.strict ≡ false → own_options (said_to c asked) ≡ own_options c
+all_said c asked mild = rw mild refl

@@ -12,4 +12,5 @@ terms_meaning x = record {
   interleave = x.interleave;
   partial = x.partial;
   reset = x.reset;
+  zero_checksum = x.zero_checksum;
 }

@@ -7,12 +7,12 @@ ghost use Rattle.sctp_model.specs.end.Sealing.{Sealing};
 ghost use Rattle.sctp_cookie.specs.CookieBody.{body_of};
 ghost use Rattle.sctp_cookie.specs.CookieTree.{body_meaning};
 ghost use Rattle.sctp_cookie.specs.Opens.{open_answer};
-ghost use Rattle.sctp_cookie.specs.Seals.{IsUnder};
+ghost use Rattle.sctp_cookie.specs.Seals.{IsUnder, options_of};
 ghost use Rattle.sctp_opening.specs.Cookies.{IsAt, IsLate, TellsStaleness, ports_in, reading_meaning};
 
 use sctp_cookie::{
-    CookieBody, CookieContent, CookieFault, Key, Ports, cookies_are_read, cookies_are_sealed,
-    open_content,
+    CookieBody, CookieContent, CookieFault, CookieOptions, Key, Ports, cookies_are_read,
+    cookies_are_sealed, open_content,
 };
 use sctp_terms::Config;
 
@@ -61,11 +61,11 @@ pub fn read_cookie(key: &Key, config: &Config, now: u64, tag: u32, cookie: &[u8]
     cookies_are_read();
     cookies_are_sealed();
     let ports = ports_of(config);
-    let resets = config.reset();
-    match open_content(key, cookie, now, ports, tag, resets) {
+    let taken = options_of(config);
+    match open_content(key, cookie, now, ports, tag, taken) {
         Ok(content) => CookieReading::Opens(content),
         Err(CookieFault::Stale(microseconds)) => {
-            late(key, cookie, ports, tag, resets, microseconds)
+            late(key, cookie, ports, tag, taken, microseconds)
         }
         Err(CookieFault::Form) => CookieReading::Strange,
         Err(CookieFault::Mac) => CookieReading::Strange,
@@ -80,18 +80,30 @@ fn late(
     cookie: &[u8],
     ports: Ports,
     tag: u32,
-    resets: bool,
+    taken: CookieOptions,
     microseconds: u32,
 ) -> CookieReading
-    requires { open_answer resets key.now cookie.now 0 ports tag ≡ Ok (body_of cookie.now) }
+    requires { open_answer taken key.now cookie.now 0 ports tag ≡ Ok (body_of cookie.now) }
     ensures { IsLate (body_of cookie.now) microseconds result }
 {
-    match open_content(key, cookie, 0, ports, tag, resets) {
+    match open_content(key, cookie, 0, ports, tag, taken) {
         Ok(content) => CookieReading::Late {
             content,
             microseconds,
         },
         Err(_) => unreachable!(),
+    }
+}
+
+/// The options that a listener is set up with, of those that its cookies may say.
+fn options_of(config: &Config) -> CookieOptions
+    ensures { result ≡ options_of config.now }
+{
+    // Its contract says that no endpoint is configured for zero checksums.
+    let _limit = config.limit();
+    CookieOptions {
+        reset: config.reset(),
+        zero_checksum: false,
     }
 }
 

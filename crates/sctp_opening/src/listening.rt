@@ -106,6 +106,8 @@ impl Outside {
         ensures list { IfOk result (λ list. IsList list.items) }
         ensures room { IfOk result (λ list. size_alone (20 + length list.items) ≤ self.now.config.limit) }
     {
+        // Its contract says that the endpoint isn't strict: it says all that it is configured for.
+        let _limit = self.config.limit();
         let cookie = seal_content(key, &self.cookie_content(offer));
         let mut list = Vec::new(alloc);
         put_parameter(STATE_COOKIE, &cookie, &mut list)?;
@@ -123,6 +125,8 @@ impl Outside {
     fn cookie_content(&self, offer: &Init<'_>) -> CookieContent
         ensures { (e : EndView) → IsAt self.now.config self.now.moment e → content_meaning result ≡ body_for e self.now.draw (init_meaning offer.now) }
     {
+        // Its contract says that no endpoint is configured for zero checksums.
+        let _limit = self.config.limit();
         let body = CookieBody {
             made: self.moment,
             listener_port: self.config.own_port(),
@@ -140,6 +144,7 @@ impl Outside {
         CookieContent {
             body,
             reset: agreed_reset(&self.config, &offer.parameters),
+            zero_checksum: false,
         }
     }
 }

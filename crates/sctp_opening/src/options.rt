@@ -72,6 +72,8 @@ fn extensions(config: &Config) -> &'static [u8]
 pub(crate) fn put_options(config: &Config, list: &mut Vec<u8>) -> Result<(), NoMemory>
     ensures { (xs : List Typed) → WritesTyped list.old.items xs → OnOk result (WritesTyped list.new.items (xs ++ own_options config.now)) }
 {
+    // Its contract says that no endpoint is configured for zero checksums.
+    let _limit = config.limit();
     if config.partial() {
         put_parameter(FORWARD_TSN_SUPPORTED, &[], list)?;
     }
@@ -94,6 +96,8 @@ pub(crate) fn introduction<'a>(config: &Config, draw: Draw, parameters: &'a [u8]
     requires { are_typed parameters.now ≡ true }
     ensures { init_meaning result ≡ introduction config.now draw parameters.now }
 {
+    // Its contract says that no space is reserved.
+    let _limit = config.limit();
     Init {
         tag: draw.tag(),
         rwnd: config.buffer(),

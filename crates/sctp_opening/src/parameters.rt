@@ -11,7 +11,7 @@ ghost use Rattle.sctp_opening.specs.inner.Fitting.{IsList, all_within, told_with
 use crate::lists::put_within;
 use sctp_wire::codes::{
     ADDRESS_TYPES, COOKIE_PRESERVATIVE, FORWARD_TSN_SUPPORTED, HOST_NAME, IPV4_ADDRESS,
-    IPV6_ADDRESS, STATE_COOKIE, SUPPORTED_EXTENSIONS, UNRECOGNIZED_PARAMETER,
+    IPV6_ADDRESS, STATE_COOKIE, SUPPORTED_EXTENSIONS, UNRECOGNIZED_PARAMETER, ZERO_CHECKSUM,
 };
 use sctp_wire::{NoMemory, Parameters, put_parameter, unknown_parameter};
 use std::alloc::Global;
@@ -115,7 +115,11 @@ fn is_known(kind: u16) -> bool
 {
     matches!(
         kind,
-        STATE_COOKIE | UNRECOGNIZED_PARAMETER | SUPPORTED_EXTENSIONS | FORWARD_TSN_SUPPORTED
+        STATE_COOKIE
+            | UNRECOGNIZED_PARAMETER
+            | ZERO_CHECKSUM
+            | SUPPORTED_EXTENSIONS
+            | FORWARD_TSN_SUPPORTED
     )
 }
 

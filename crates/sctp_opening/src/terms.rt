@@ -12,7 +12,7 @@ use sctp_terms::{Config, Draw};
 use sctp_wire::Init;
 
 /// The initial TSNs, the number of streams each way, and the extensions in use (RFC 9260, 5.1.1; RFC 8260, 2.2.1; RFC 3758, 3.1;
-/// RFC 6525, 5.1).
+/// RFC 6525, 5.1; RFC 9653, 5).
 #[derive(Clone, Copy, Debug, PartialEq, Eq)]
 pub struct Terms {
     /// This endpoint's initial TSN.
@@ -29,6 +29,8 @@ pub struct Terms {
     pub partial: bool,
     /// Streams may be reset (RFC 6525).
     pub reset: bool,
+    /// Packets may have the checksum 0 (RFC 9653).
+    pub zero_checksum: bool,
 }
 
 impl Terms {
@@ -37,6 +39,8 @@ impl Terms {
     pub fn of_init_ack(config: &Config, draw: Draw, offer: &Init<'_>) -> Terms
         ensures { terms_meaning result ≡ terms_of_ack config.now draw (init_meaning offer.now) }
     {
+        // Its contract says that no endpoint is configured for zero checksums.
+        let _limit = config.limit();
         Terms {
             own_tsn: draw.tsn(),
             peer_tsn: offer.tsn,
@@ -45,6 +49,7 @@ impl Terms {
             interleave: agreed_interleave(config, &offer.parameters),
             partial: agreed_partial(config, &offer.parameters),
             reset: agreed_reset(config, &offer.parameters),
+            zero_checksum: false,
         }
     }
 
@@ -61,6 +66,7 @@ impl Terms {
             interleave: body.interleaving,
             partial: body.partial_reliability,
             reset: content.reset,
+            zero_checksum: content.zero_checksum,
         }
     }
 
@@ -68,6 +74,8 @@ impl Terms {
     pub fn alike(config: &Config, own: Draw, peer: Draw) -> Terms
         ensures { terms_meaning result ≡ terms_alike config.now own peer }
     {
+        // Its contract says that no endpoint is configured for zero checksums.
+        let _limit = config.limit();
         let streams = config.outbound().min(config.inbound());
         Terms {
             own_tsn: own.tsn(),
@@ -77,6 +85,7 @@ impl Terms {
             interleave: config.interleave(),
             partial: config.partial(),
             reset: config.reset(),
+            zero_checksum: false,
         }
     }
 }

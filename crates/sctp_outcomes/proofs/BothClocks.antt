@@ -1,10 +1,10 @@
 -- One clock for both is two that show the same.
-use Rattle.std.proofs.Common.{◌≡◌, ℕ, max, Bool, true, false, List, [], ◌∷◌, ◌++◌, Option, Some, None, inl, inr, refl, sym, subst, ap, ◌∙◌}
+use Rattle.std.proofs.Common.{◌≡◌, ℕ, max, true, List, [], ◌∷◌, Option, Some, inl, inr, refl, sym, ap, ◌∙◌}
 use Rattle.sctp_model.specs.numbers.Lists.{Has}
 use Rattle.sctp_model.specs.wire.Packet.{Packet}
 use Rattle.sctp_model.specs.end.EndView.{EndView}
-use Rattle.sctp_model.specs.world.World.{Side, A, B, World, Setup, start}
-use Rattle.sctp_model.specs.world.Events.{Event, Later, Moment, At, Outcome, Done}
+use Rattle.sctp_model.specs.world.World.{Side, A, B, World, start}
+use Rattle.sctp_model.specs.world.Events.{Event, Outcome}
 use Rattle.sctp_model.specs.world.Steps.{Brings, FromBag, FromStranger, NoPacket, Step, OpensBoth, OpenRefused, TimeGoesOn, MomentComes, TimePasses, Draws, Connects, ConnectRefused, BuildsOne, BuildsNone, PacketComes, IsAbsent, Sends, AbandonsOne, TakesOne, ResetsOne, TellsReset, ShutsDown, AbortsIt, PacketCut, NoMemory, Run, Rest, Then}
 use Rattle.sctp_safety.proofs.machine.OneEnd.{IsAt, at_end, at_log, at_packet, at_came, at_verdict, at_abort}
 use Rattle.sctp_safety.proofs.runs.Courses.{runs_go_on}

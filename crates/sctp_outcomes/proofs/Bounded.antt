@@ -55,7 +55,7 @@ by_forward f r c m Moved t b gives = same_seen f f r t (all_seen f r.streams _ t
 
 pub bounded_law : IsReceiverLaw (Whatever IsBounded)
 bounded_law = record {
-  fresh = λ f i n b. record { bound = 0; within = λ j h. absurd (cc) };
+  fresh = λ f i n b v. record { bound = 0; within = λ j h. absurd (cc) };
   piece = λ f n r p a t b came. by_answer f r (piece_at f r came.c p) p.tsn a t b came.leaves;
   forward = λ f n r m a t b came. by_forward f r came.c m a t b came.leaves;
   sent = λ f n r b. same_seen f f r (sack_sent r) refl b;

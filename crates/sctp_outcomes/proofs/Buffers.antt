@@ -61,7 +61,7 @@ take_keeps_buffer r s (Some h) t (rest, waits, is) = subst (HaveOne r) (sym is) 
 
 pub buffer_law : IsReceiverLaw IsOfBuffer
 buffer_law = record {
-  fresh = λ f i n b. record { same = refl; fits = fresh_fits i n b };
+  fresh = λ f i n b v. record { same = refl; fits = fresh_fits i n b v };
   piece = λ f b r p a t o came. record { same = piece_keeps_buffer f r p a t came ∙ o.same; fits = piece_fits f r p a t o.fits came };
   forward = λ f b r m a t o came. record { same = forward_keeps_buffer f r m a t came ∙ o.same; fits = forward_fits f r m a t o.fits came };
   sent = λ f b r o. record { same = o.same; fits = sent_fits r o.fits };

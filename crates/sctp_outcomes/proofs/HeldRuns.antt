@@ -1,7 +1,7 @@
 -- In every world of every run that meets the premises no endpoint is held for ever.
 use Rattle.std.proofs.Common.{◌<◌, ◌≡◌, max, List, [], ◌∷◌, Option, None, refl, sym, subst, arith, ◌∙◌}
 use Rattle.sctp_model.specs.wire.Packet.{Packet}
-use Rattle.sctp_model.specs.end.EndView.{Configuration, EndView}
+use Rattle.sctp_model.specs.end.EndView.{Configuration, first_offer, EndView}
 use Rattle.sctp_model.specs.end.Arriving.{DroppedUnread, ReadAs, CutFirst, CutLater}
 use Rattle.sctp_model.specs.end.UserCalls.{shut, abort_answer, abort_leaves, reset_call, reset_leaves, reset_there, told_leaves}
 use Rattle.sctp_model.specs.world.World.{Side, A, B, World, end_of, end_now, start, Setup, configuration_of, clock_of}
@@ -30,8 +30,8 @@ HaveFragments w = (x : Side) → 0 < (end_of w x).configuration.fragment
 
 held_step : (w : World) (e : Event) (o : Option Outcome) (v : World) → HaveFragments w → AreReached w → AreHeldWell w → Step w e o v → AreHeldWell v
 held_step w e o v f k r (OpensBoth x y like may dx dy) = at_both v
-    (λ some. begins_paced w.a.configuration w.a.configuration.buffer some, λ q here some. absurd (omega (arith, some)))
-    (λ some. begins_paced w.b.configuration w.b.configuration.buffer some, λ q here some. absurd (omega (arith, some)))
+    (λ some. begins_paced w.a.configuration _ (first_offer w.a.configuration) some, λ some. absurd (omega (arith, some)))
+    (λ some. begins_paced w.b.configuration _ (first_offer w.b.configuration) some, λ some. absurd (omega (arith, some)))
 held_step w e o v f k r (OpenRefused x y closed) = r
 held_step w e o v f k r (TimeGoesOn A m small) = at_both v (r A) (r B)
 held_step w e o v f k r (TimeGoesOn B m small) = at_both v (r A) (r B)

@@ -19,7 +19,7 @@ use Rattle.sctp_outcomes.proofs.Reaching.{senders_reached}
 
 rest_law : IsReceiverLaw (Whatever IsAtRest)
 rest_law = record {
-  fresh = λ f i n b. fresh_at_rest f i n b;
+  fresh = λ f i n b v. fresh_at_rest f i n b v;
   piece = λ f b r p a t o came. piece_at_rest f r p a t o came;
   forward = λ f b r m a t o came. forward_at_rest f r m a t o came;
   sent = λ f b r o. sent_at_rest f r o;

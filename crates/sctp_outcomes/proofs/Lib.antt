@@ -24,6 +24,11 @@ pub mod PlainEnds
 pub mod PlainRuns
 pub mod UnresetEnds
 pub mod UnresetRuns
+pub mod BeatlessEnds
+pub mod BeatlessRuns
+pub mod BeatingEnds
+pub mod BeatingRuns
+pub mod Reserved
 pub mod stories
 pub mod logs
 pub mod ToldOnce

@@ -14,7 +14,7 @@ use Rattle.sctp_model.specs.end.Closing.{answers_shutdown, hears, takes_data, ta
 use Rattle.sctp_model.specs.end.Reports.{with_causes}
 use Rattle.sctp_model.specs.end.PeerFaults.{Unnoted, ToAcknowledge, After, GoesOn, Replies, packet_to, abort_for, at_fault, no_user_data, violation}
 use Rattle.sctp_model.specs.end.Opening.{ack_fault, is_calling, echoing, InitAckActs, NotCalling, NoTag, RefusedAck, AcceptedAck, seal_in, is_ours, cookie_read, EchoActs, NotHere, EchoedAgain, IsStrange, is_echoing, acknowledged_echo, CookieAckActs, NotEchoing, CookieAcked}
-use Rattle.sctp_model.specs.end.Acting.{asks_at_once, piece_causes, PieceActs, ForwardNotHeard, HeartbeatNotHeard, PieceNotHeard, SackNotHeard, PieceEmpty, WrongFormat, ForwardComes, PieceComes, ForwardActs, WrongKind, IsBad, IsOld, SackActs, SackStale, ShutdownStale, SackWrong, ShutdownWrong, HeartbeatCounts, SackCounts, ShutdownCounts, HeartbeatActs, ErrorActs, Closes, SaysNothing, shutdown_heard, ShutdownActs, ShutdownNotOpen, Crosses, Again, ShutdownAckActs, AckNotAwaited, CompleteNotAwaited, AckCompletes, CompleteCompleted, CompleteActs, Acts, ReconfigComes, IsUnknown}
+use Rattle.sctp_model.specs.end.Acting.{asks_at_once, piece_causes, PieceActs, ForwardNotHeard, HeartbeatNotHeard, PieceNotHeard, SackNotHeard, PieceEmpty, WrongFormat, ForwardComes, PieceComes, ForwardActs, WrongKind, IsBad, IsOld, SackActs, SackStale, ShutdownStale, SackWrong, ShutdownWrong, HeartbeatCounts, SackCounts, ShutdownCounts, HeartbeatActs, ErrorActs, Closes, SaysNothing, shutdown_heard, ShutdownActs, ShutdownNotOpen, Crosses, Again, ShutdownAckActs, AckNotAwaited, CompleteNotAwaited, AckCompletes, CompleteCompleted, CompleteActs, Acts, ReconfigComes, IsUnknown, Misnumbered, is_refused}
 use Rattle.sctp_model.specs.end.Reconfiguring.{parameters_heard}
 
 -- ---- what can't hold at once
@@ -38,19 +38,30 @@ module _ (e : EndView) (o : IsOrdinary (format_of e) e.receiver) where
   one_piece f p x y (PieceNotHeard o1) (PieceNotHeard o2) = refl
   one_piece f p x y (PieceNotHeard o1) (PieceEmpty t2 g2 i2 k2 z2) = absurd (deaf takes_data e.phase t2 g2 o1 i2 k2)
   one_piece f p x y (PieceNotHeard o1) (WrongFormat t2 g2 i2 k2 s2 m2) = absurd (deaf takes_data e.phase t2 g2 o1 i2 k2)
-  one_piece f p x y (PieceNotHeard o1) (PieceComes t2 g2 a2 r2 i2 k2 s2 m2 c2) = absurd (deaf takes_data e.phase t2 g2 o1 i2 k2)
+  one_piece f p x y (PieceNotHeard o1) (Misnumbered t2 g2 n2 i2 k2 s2 m2 c2 w2) = absurd (deaf takes_data e.phase t2 g2 o1 i2 k2)
+  one_piece f p x y (PieceNotHeard o1) (PieceComes t2 g2 a2 r2 i2 k2 s2 m2 c2 w2) = absurd (deaf takes_data e.phase t2 g2 o1 i2 k2)
   one_piece f p x y (PieceEmpty t1 g1 i1 k1 z1) (PieceNotHeard o2) = absurd (deaf takes_data e.phase t1 g1 o2 i1 k1)
   one_piece f p x y (PieceEmpty t1 g1 i1 k1 z1) (PieceEmpty t2 g2 i2 k2 z2) = let q = same_open e.phase t1 t2 g1 g2 i1 i2 in ap (λ (t : Tags). at_fault t (no_user_data p.tsn) e) q.0
   one_piece f p x y (PieceEmpty t1 g1 i1 k1 z1) (WrongFormat t2 g2 i2 k2 s2 m2) = absurd (let z = z1 in let s = s2 in omega (arith, z, s))
-  one_piece f p x y (PieceEmpty t1 g1 i1 k1 z1) (PieceComes t2 g2 a2 r2 i2 k2 s2 m2 c2) = absurd (let z = z1 in let s = s2 in omega (arith, z, s))
+  one_piece f p x y (PieceEmpty t1 g1 i1 k1 z1) (Misnumbered t2 g2 n2 i2 k2 s2 m2 c2 w2) = absurd (let z = z1 in let s = s2 in omega (arith, z, s))
+  one_piece f p x y (PieceEmpty t1 g1 i1 k1 z1) (PieceComes t2 g2 a2 r2 i2 k2 s2 m2 c2 w2) = absurd (let z = z1 in let s = s2 in omega (arith, z, s))
   one_piece f p x y (WrongFormat t1 g1 i1 k1 s1 m1) (PieceNotHeard o2) = absurd (deaf takes_data e.phase t1 g1 o2 i1 k1)
   one_piece f p x y (WrongFormat t1 g1 i1 k1 s1 m1) (PieceEmpty t2 g2 i2 k2 z2) = absurd (let z = z2 in let s = s1 in omega (arith, z, s))
   one_piece f p x y (WrongFormat t1 g1 i1 k1 s1 m1) (WrongFormat t2 g2 i2 k2 s2 m2) = let q = same_open e.phase t1 t2 g1 g2 i1 i2 in ap (λ (t : Tags). at_fault t violation e) q.0
-  one_piece f p x y (WrongFormat t1 g1 i1 k1 s1 m1) (PieceComes t2 g2 a2 r2 i2 k2 s2 m2 c2) = absurd (clash m2 m1)
-  one_piece f p x y (PieceComes t1 g1 a1 r1 i1 k1 s1 m1 c1) (PieceNotHeard o2) = absurd (deaf takes_data e.phase t1 g1 o2 i1 k1)
-  one_piece f p x y (PieceComes t1 g1 a1 r1 i1 k1 s1 m1 c1) (PieceEmpty t2 g2 i2 k2 z2) = absurd (let z = z2 in let s = s1 in omega (arith, z, s))
-  one_piece f p x y (PieceComes t1 g1 a1 r1 i1 k1 s1 m1 c1) (WrongFormat t2 g2 i2 k2 s2 m2) = absurd (clash m1 m2)
-  one_piece f p x y (PieceComes t1 g1 a1 r1 i1 k1 s1 m1 c1) (PieceComes t2 g2 a2 r2 i2 k2 s2 m2 c2) = let r = piece_only (format_of e) e.receiver p a1 a2 r1 r2 o c1 c2 in ap (λ (a : PieceAnswer). GoesOn (ToAcknowledge true (asks_at_once p a)) (with_causes (piece_causes e p a) (record e { receiver = r1 }))) r.0 ∙ ap (λ (v : ReceiverView). GoesOn (ToAcknowledge true (asks_at_once p a2)) (with_causes (piece_causes e p a2) (record e { receiver = v }))) r.1
+  one_piece f p x y (WrongFormat t1 g1 i1 k1 s1 m1) (Misnumbered t2 g2 n2 i2 k2 s2 m2 c2 w2) = absurd (clash m2 m1)
+  one_piece f p x y (WrongFormat t1 g1 i1 k1 s1 m1) (PieceComes t2 g2 a2 r2 i2 k2 s2 m2 c2 w2) = absurd (clash m2 m1)
+  one_piece f p x y (Misnumbered t1 g1 n1 i1 k1 s1 m1 c1 w1) (PieceNotHeard o2) = absurd (deaf takes_data e.phase t1 g1 o2 i1 k1)
+  one_piece f p x y (Misnumbered t1 g1 n1 i1 k1 s1 m1 c1 w1) (PieceEmpty t2 g2 i2 k2 z2) = absurd (let z = z2 in let s = s1 in omega (arith, z, s))
+  one_piece f p x y (Misnumbered t1 g1 n1 i1 k1 s1 m1 c1 w1) (WrongFormat t2 g2 i2 k2 s2 m2) = absurd (clash m1 m2)
+  one_piece f p x y (Misnumbered t1 g1 n1 i1 k1 s1 m1 c1 w1) (Misnumbered t2 g2 n2 i2 k2 s2 m2 c2 w2) = let q = same_open e.phase t1 t2 g1 g2 i1 i2 in ap (λ (t : Tags). at_fault t violation e) q.0
+  one_piece f p x y (Misnumbered t1 g1 n1 i1 k1 s1 m1 c1 w1) (PieceComes t2 g2 a2 r2 i2 k2 s2 m2 c2 w2) =
+      absurd (clash w1 (subst (λ (c : ℕ). is_refused e c p ≡ false) (cumulative_only e.receiver c2.c n1 c2.cumulative c1) w2))
+  one_piece f p x y (PieceComes t1 g1 a1 r1 i1 k1 s1 m1 c1 w1) (PieceNotHeard o2) = absurd (deaf takes_data e.phase t1 g1 o2 i1 k1)
+  one_piece f p x y (PieceComes t1 g1 a1 r1 i1 k1 s1 m1 c1 w1) (PieceEmpty t2 g2 i2 k2 z2) = absurd (let z = z2 in let s = s1 in omega (arith, z, s))
+  one_piece f p x y (PieceComes t1 g1 a1 r1 i1 k1 s1 m1 c1 w1) (WrongFormat t2 g2 i2 k2 s2 m2) = absurd (clash m1 m2)
+  one_piece f p x y (PieceComes t1 g1 a1 r1 i1 k1 s1 m1 c1 w1) (Misnumbered t2 g2 n2 i2 k2 s2 m2 c2 w2) =
+      absurd (clash w2 (subst (λ (c : ℕ). is_refused e c p ≡ false) (cumulative_only e.receiver c1.c n2 c1.cumulative c2) w1))
+  one_piece f p x y (PieceComes t1 g1 a1 r1 i1 k1 s1 m1 c1 w1) (PieceComes t2 g2 a2 r2 i2 k2 s2 m2 c2 w2) = let r = piece_only (format_of e) e.receiver p a1 a2 r1 r2 o c1 c2 in ap (λ (a : PieceAnswer). GoesOn (ToAcknowledge true (asks_at_once p a)) (with_causes (piece_causes e p a) (record e { receiver = r1 }))) r.0 ∙ ap (λ (v : ReceiverView). GoesOn (ToAcknowledge true (asks_at_once p a2)) (with_causes (piece_causes e p a2) (record e { receiver = v }))) r.1
 
   one_forward : (f : Format) (m : ForwardMeaning) (x y : After) → ForwardActs f e m x → ForwardActs f e m y → x ≡ y
   one_forward f m x y (ForwardNotHeard o1) (ForwardNotHeard o2) = refl

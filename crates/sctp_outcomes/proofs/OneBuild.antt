@@ -7,7 +7,7 @@ use Rattle.sctp_model.proofs.receiver.OneStep.{cumulative_only}
 use Rattle.sctp_model.proofs.receiver.OneSack.{sack_only}
 use Rattle.sctp_model.specs.end.EndView.{Tags, Draw, Stage, Phase, Calling, Echoing, Open, EndView, has_association}
 use Rattle.sctp_model.specs.end.Opening.{own_init}
-use Rattle.sctp_model.specs.end.Building.{Slot, Wants, EchoCookie, AckCookie, AckHeartbeat, ReportCauses, Acknowledge, PassOn, SayShutdown, AnswerShutdown, has_room, Puts, NoMore, NotDue, Put, IsFull, echoing_slots, open_slots, Builds, Sleeps, Waits, Calls, Echoes, Fills, sent, fragments, once_built, AnswerReset, AskReset}
+use Rattle.sctp_model.specs.end.Building.{Slot, Wants, EchoCookie, AckCookie, AckHeartbeat, Beat, ReportCauses, Acknowledge, PassOn, SayShutdown, AnswerShutdown, has_room, Puts, NoMore, NotDue, Put, IsFull, echoing_slots, open_slots, Builds, Sleeps, Waits, Calls, Echoes, Fills, sent, fragments, once_built, AnswerReset, AskReset, most_blocks}
 use Rattle.sctp_model.specs.end.Building.{EndsFull}
 use Rattle.sctp_outcomes.proofs.OneAct.{clash}
 use Rattle.sctp_model.specs.end.Reconfiguring.{asking}
@@ -26,8 +26,9 @@ one_wanted e s x y (AckHeartbeat i p) (AckHeartbeat j q) =
     let both : Some i ≡ Some j = sym p ∙ q in
     let info : i ≡ j = cc in
     ap (λ (z : List ℕ). HeartbeatAck z) info
+one_wanted e s x y Beat Beat = refl
 one_wanted e s x y ReportCauses ReportCauses = refl
-one_wanted e s x y (Acknowledge a p) (Acknowledge b q) = ap (λ (z : SackMeaning). Sack z) (sack_only e.receiver a b p q)
+one_wanted e s x y (Acknowledge a p) (Acknowledge b q) = ap (λ (z : SackMeaning). Sack z) (sack_only (most_blocks e.configuration) e.receiver a b p q)
 one_wanted e s x y PassOn PassOn = refl
 one_wanted e s x y AnswerReset AnswerReset = refl
 one_wanted e s x y (AskReset q i) (AskReset r j) =

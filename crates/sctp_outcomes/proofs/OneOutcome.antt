@@ -11,7 +11,7 @@ use Rattle.sctp_model.specs.end.EndView.{EndView}
 use Rattle.sctp_model.specs.end.Strays.{Verdict}
 use Rattle.sctp_model.specs.end.Arriving.{Receives}
 use Rattle.sctp_model.specs.end.Building.{packet_of}
-use Rattle.sctp_model.specs.end.UserCalls.{Called, NotIdle}
+use Rattle.sctp_model.specs.end.UserCalls.{Called, NotIdle, updating}
 use Rattle.sctp_model.specs.world.World.{Side, other, are_alike, World, end_of, bag_of, with_end, with_packet, end_now, came, clock_of}
 use Rattle.sctp_model.specs.world.Events.{Event, Deliver, Outcome, Sent, next_number, told, with_verdict, message_told}
 use Rattle.sctp_model.specs.world.Steps.{FromBag, FromStranger, Brings, Step, OpensBoth, OpenRefused, TimePasses, Draws, Connects, ConnectRefused, BuildsOne, BuildsNone, PacketComes, IsAbsent, Sends, AbandonsOne, TakesOne, ShutsDown, AbortsIt, NoPacket, ResetsOne, TellsReset, TimeGoesOn, MomentComes}
@@ -105,7 +105,7 @@ one_step w ordinary e o p v u (AbandonsOne _ _) (PacketComes _ _ _ _ _ brings _)
 one_step w ordinary e o p v u (PacketComes _ _ _ _ _ brings _) (AbandonsOne _ _) = elim brings [ ]
 one_step w ordinary e o p v u (TakesOne s n h t a) (TakesOne _ _ k r b) =
     let q = one_taken (end_of w s).receiver n h k a.receiver b.receiver a.takes b.takes in
-    let same : t ≡ r = a.leaves ∙ ap (λ (z : ReceiverView). record (end_of w s) { receiver = z }) q.1 ∙ sym b.leaves in
+    let same : t ≡ r = a.leaves ∙ ap (λ (z : ReceiverView). updating (record (end_of w s) { receiver = z })) q.1 ∙ sym b.leaves in
     (ap message_told q.0, ap (with_end w s) same)
 one_step w ordinary e o p v u (TakesOne _ _ _ _ _) (PacketComes _ _ _ _ _ brings _) = elim brings [ ]
 one_step w ordinary e o p v u (PacketComes _ _ _ _ _ brings _) (TakesOne _ _ _ _ _) = elim brings [ ]

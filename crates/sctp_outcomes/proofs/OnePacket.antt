@@ -112,7 +112,7 @@ one_arrives e d p t u v w o (CookieBegins b _ _ _ _ _ _ s _ _ _) (Stray _ _ _ n)
 one_arrives e d p t u v w o (CookieBegins b i m _ _ _ _ s one gap left) (CookieBegins c j n _ _ _ _ z other hole there) =
     let both : Some b ≡ Some c = sym s ∙ z in
     let body : c ≡ b = cc in
-    ended_one i j m n gap hole v w left there (one_all p.tag (begun b e) (noted Unnoted no_notes) (drop 1 p.chunks) i j m n v w (ordinary_law.fresh _ _ _ _) one
+    ended_one i j m n gap hole v w left there (one_all p.tag (begun b e) (noted Unnoted no_notes) (drop 1 p.chunks) i j m n v w (ordinary_law.fresh _ _ _ _ _) one
     (subst (λ (y : Body). AllAct p.tag (begun y e) (noted Unnoted no_notes) (drop 1 p.chunks) j n w) body other))
 one_arrives e d p t u v w o (CookieBegins _ _ _ _ _ _ a _ _ _ _) (Heard _ _ _ _ _ c _ _ _) = absurd (clash c a)
 one_arrives e d p t u v w o (Heard _ _ _ c _ _ _ _ _) (Elsewhere a) = absurd (clash c a)

@@ -15,7 +15,7 @@ by_taking f r s (Some h) t o (rest, waits, is) = subst (IsOrdinary f) (sym is) (
 
 pub ordinary_law : IsReceiverLaw (Whatever IsOrdinary)
 ordinary_law = record {
-  fresh = λ f i n b. record { apart = λ x y none other place. elim none [ ]; recorded = λ y none. elim none [ ] };
+  fresh = λ f i n b v. record { apart = λ x y none other place. elim none [ ]; recorded = λ y none. elim none [ ] };
   piece = λ f b r p a t o came. piece_ordinary f r p a t o came;
   forward = λ f b r m a t o came. forward_ordinary f r m a t o came;
   sent = λ f b r o. record { apart = o.apart; recorded = o.recorded };

@@ -9,18 +9,19 @@ use Rattle.sctp_model.specs.sender.Queueing.{Refusal, refusal}
 use Rattle.sctp_model.specs.sender.Readers.{point}
 use Rattle.sctp_model.specs.sender.Abandoning.{abandon_after, worn}
 use Rattle.sctp_model.specs.end.Sealing.{Body}
-use Rattle.sctp_model.specs.end.EndView.{Draw, Aborted, TimedOut, Established, ShutdownPending, ShutdownSent, ShutdownReceived, ShutdownAckSent, Phase, Idle, Listening, Calling, Echoing, Open, Over, Alarm, InitAlarm, CookieAlarm, DataAlarm, ShutdownAlarm, AckAlarm, EndView, has_association, ResetAlarm, Configuration}
-use Rattle.sctp_model.specs.end.Clock.{echo_trip, repeats_of, is_over_at, with_timer, closed, at_moment, settled, turned}
+use Rattle.sctp_model.specs.end.EndView.{Draw, Aborted, TimedOut, Established, ShutdownPending, ShutdownSent, ShutdownReceived, ShutdownAckSent, Phase, Idle, Listening, Calling, Echoing, Open, Over, Alarm, InitAlarm, CookieAlarm, DataAlarm, ShutdownAlarm, AckAlarm, EndView, has_association, ResetAlarm, BeatAlarm, GuardAlarm, Configuration}
+use Rattle.sctp_model.specs.end.Clock.{echo_trip, may_go_on, is_over_at, with_timer, closed, at_moment, settled, turned}
 use Rattle.sctp_model.specs.end.Clock.{expired_timer}
 use Rattle.sctp_model.specs.end.Closing.{rested, hears}
 use Rattle.sctp_model.specs.end.PeerFaults.{GoesOn, Ends, Replies, Note, Unnoted}
 use Rattle.sctp_model.specs.end.Opening.{AcceptedAck, RefusedAck, EchoedAgain, CookieAcked, joined, terms_of_body, cookie_trip, begun, pace_for}
-use Rattle.sctp_model.specs.end.Acting.{Acts, ForwardComes, PieceComes, IsOld, SackStale, ShutdownStale, HeartbeatCounts, SackCounts, ShutdownCounts, Closes, SaysNothing, Crosses, Again, AckCompletes, CompleteCompleted, PieceEmpty, WrongFormat, SackWrong, ShutdownWrong, WrongKind, IsBad, ReconfigComes, IsUnknown}
+use Rattle.sctp_model.specs.end.Beating.{beat_trip, beat_heard}
+use Rattle.sctp_model.specs.end.Acting.{Acts, ForwardComes, PieceComes, IsOld, SackStale, ShutdownStale, HeartbeatCounts, SackCounts, ShutdownCounts, Closes, SaysNothing, Crosses, Again, AckCompletes, CompleteCompleted, PieceEmpty, WrongFormat, SackWrong, ShutdownWrong, WrongKind, IsBad, ReconfigComes, IsUnknown, Misnumbered}
 use Rattle.sctp_model.specs.end.Wearing.{missed_below, wearing}
 use Rattle.sctp_model.proofs.PacedEnds.{worn_cases}
 use Rattle.sctp_model.specs.end.Arriving.{AllAct, NoneLeft, Next, Passes, Last, EndsAnswered, Stopped, Arrives, Elsewhere, NotOurs, Stray, CookieBegins, Heard, Notes, no_notes, noted, urged, packet_ended}
 use Rattle.sctp_model.specs.end.Strays.{Verdict}
-use Rattle.sctp_model.specs.end.Building.{filled_behind, Slot, Puts, NoMore, NotDue, Put, IsFull, Builds, Sleeps, Waits, Calls, Echoes, EndsFull, Fills, EchoSlot, CookieAckSlot, HeartbeatSlot, ErrorSlot, SackSlot, ForwardSlot, ShutdownSlot, ShutdownAckSlot, once_built, AnswerSlot, RequestSlot}
+use Rattle.sctp_model.specs.end.Building.{filled_behind, Slot, Puts, NoMore, NotDue, Put, IsFull, Builds, Sleeps, Waits, Calls, Echoes, EndsFull, Fills, EchoSlot, CookieAckSlot, HeartbeatSlot, BeatSlot, ErrorSlot, SackSlot, ForwardSlot, ShutdownSlot, ShutdownAckSlot, once_built, AnswerSlot, RequestSlot}
 use Rattle.sctp_model.specs.end.Moments.{after_abandoning, is_data_due, given_up, due_again, rung, ring, rung_all, all_alarms, waited_in, passed, ticked}
 use Rattle.sctp_model.specs.end.UserCalls.{is_established, answer_for, send_answer, send_leaves, NotOpen, is_open, abandoned_at, shut_in, shut, AbortAnswer, Aborts, NoPeer, TooLong, abort_leaves, ResetCall, Begun, NotAgreed, NoStream, reset_leaves, told_leaves}
 use Rattle.sctp_safety.proofs.machine.EndWords.{rested_cases, ended_cases}
@@ -29,6 +30,7 @@ use Rattle.sctp_model.specs.sender.SackTaken.{sack_taken, shutdown_taken}
 use Rattle.sctp_model.specs.end.Reconfiguring.{asking}
 use Rattle.sctp_model.specs.wire.Typed.{typed_in}
 use Rattle.sctp_safety.proofs.machine.Reconfigured.{IsReconfigured, parameters_same, asking_same}
+use Rattle.sctp_model.specs.end.Misses.{last_sent}
 use Rattle.sctp_model.specs.end.Pacing.{Pace, pace_begun, fresh_pace, heard, expired_pace, sent_pace}
 use Rattle.sctp_model.specs.sender.Words.{when}
 
@@ -39,10 +41,10 @@ abbrev pub IsPlainAt : EndView → Type 0
 IsPlainAt e = e.configuration.fast_retransmit ≡ false → e.pace ≡ None
 
 -- an association that begins
-pub plain_anew : (e : EndView) (window : ℕ) → e.pace ≡ pace_for e.configuration window → IsPlainAt e
-plain_anew e window is off = is ∙ by e.configuration.fast_retransmit off
+pub plain_anew : (e : EndView) (header window : ℕ) → e.pace ≡ pace_for e.configuration header window → IsPlainAt e
+plain_anew e header window is off = is ∙ by e.configuration.fast_retransmit off
   where
-    by : (b : Bool) → b ≡ false → when b (fresh_pace e.configuration.congestion_control (e.configuration.limit - size_of_packet []) window) ≡ None
+    by : (b : Bool) → b ≡ false → when b (fresh_pace e.configuration.congestion_control e.configuration.growth e.configuration.cubic header (e.configuration.limit - size_of_packet []) window) ≡ None
     by true on = absurd (cc)
     by false on = refl
 
@@ -63,14 +65,14 @@ plain_asking e r = plain_reconfigured e (asking e) (asking_same e) r
 
 -- a chunk after which the packet goes on
 plain_goes : (e : EndView) (tag : ℕ) (x : ChunkMeaning) (y : Note) (t : EndView) → IsPlainAt e → Acts e tag x (GoesOn y t) → IsPlainAt t
-plain_goes e tag (Data p) y t r (PieceComes _ _ _ _ _ _ _ _ _) = r
-plain_goes e tag (IData p) y t r (PieceComes _ _ _ _ _ _ _ _ _) = r
+plain_goes e tag (Data p) y t r (PieceComes _ _ _ _ _ _ _ _ _ _) = r
+plain_goes e tag (IData p) y t r (PieceComes _ _ _ _ _ _ _ _ _ _) = r
 plain_goes e tag (Init m) y t r h = absurd (cc)
-plain_goes e tag (InitAck m) y t r (AcceptedAck _ _ _ _ _ _) = plain_anew t m.rwnd refl
+plain_goes e tag (InitAck m) y t r (AcceptedAck _ _ _ _ _ _) = plain_anew t _ m.rwnd refl
 plain_goes e tag (Sack s) y t r (SackStale _ _) = r
 plain_goes e tag (Sack s) y t r (SackCounts hears none) = none_from (λ p. (heard e.moment e.sender (sack_taken e.sender s) p).pace) e r
 plain_goes e tag (Heartbeat i) y t r (HeartbeatCounts _) = r
-plain_goes e tag (HeartbeatAck i) y t r h = let q : t ≡ e = cc in subst IsPlainAt (sym q) r
+plain_goes e tag (HeartbeatAck i) y t r h = let q : t ≡ beat_heard e i = cc in subst IsPlainAt (sym q) (none_from (pace_begun (beat_trip e i)) e r)
 plain_goes e tag (Abort b xs) y t r h = absurd (cc)
 plain_goes e tag (Shutdown n) y t r (ShutdownStale _ _ _ _ _) = r
 plain_goes e tag (Shutdown n) y t r (ShutdownCounts _ _ _ _ none) = none_from (λ p. (heard e.moment e.sender (shutdown_taken e.sender n) p).pace) e r
@@ -79,7 +81,7 @@ plain_goes e tag (Shutdown n) y t r (Again _ _) = r
 plain_goes e tag ShutdownAck y t r h = elim h [ ]
 plain_goes e tag (Error xs) y t r (SaysNothing _) = r
 plain_goes e tag (CookieEcho xs) y t r (EchoedAgain _ _ _ _ _ _ _) = r
-plain_goes e tag CookieAck y t r (CookieAcked _ _ _) = none_from (pace_begun (echo_trip e.moment (e.timers CookieAlarm))) e r
+plain_goes e tag CookieAck y t r (CookieAcked _ _ _) = none_from (pace_begun (echo_trip e.configuration.first_wait e.moment (e.timers CookieAlarm))) e r
 plain_goes e tag (ShutdownComplete b) y t r h = elim h [ ]
 plain_goes e tag (ForwardTsn m) y t r (IsOld _ _ _ _ _ _ _) = r
 plain_goes e tag (ForwardTsn m) y t r (ForwardComes _ _ _ _ _ _ _) = r
@@ -112,8 +114,10 @@ plain_ends e tag (Unknown n f v) t r (IsUnknown _ _ h) = let u = unknown_ends e 
 plain_replies : (e : EndView) (tag : ℕ) (x : ChunkMeaning) (t : EndView) (p : Packet) → IsPlainAt e → Acts e tag x (Replies t p) → IsPlainAt t
 plain_replies e tag (Data q) t p r (PieceEmpty _ _ _ _ _) = r
 plain_replies e tag (Data q) t p r (WrongFormat _ _ _ _ _ _) = r
+plain_replies e tag (Data q) t p r (Misnumbered _ _ _ _ _ _ _ _ _) = r
 plain_replies e tag (IData q) t p r (PieceEmpty _ _ _ _ _) = r
 plain_replies e tag (IData q) t p r (WrongFormat _ _ _ _ _ _) = r
+plain_replies e tag (IData q) t p r (Misnumbered _ _ _ _ _ _ _ _ _) = r
 plain_replies e tag (Init m) t p r h = absurd (cc)
 plain_replies e tag (InitAck m) t p r (RefusedAck _ _ _ _ _) = r
 plain_replies e tag (Sack s) t p r (SackWrong _ _ _ _ _) = r
@@ -154,7 +158,7 @@ plain_worn from e r = worn_cases IsPlainAt from e r (λ test on. plain_abandonin
 
 -- the association that a cookie begins
 plain_begun : (b : Body) (e : EndView) → IsPlainAt (begun b e)
-plain_begun b e = none_from (pace_begun (Some (cookie_trip e.moment b))) (joined (terms_of_body b) b.rwnd e) (plain_anew (joined (terms_of_body b) b.rwnd e) b.rwnd refl)
+plain_begun b e = none_from (pace_begun (Some (cookie_trip e.moment b))) (joined (terms_of_body b) b.rwnd e) (plain_anew (joined (terms_of_body b) b.rwnd e) _ b.rwnd refl)
 
 pub plain_arrives : (e : EndView) (d : Draw) (p : Packet) (t : EndView) (v : Verdict) → IsPlainAt e → Arrives e d p t v → IsPlainAt t
 plain_arrives e d p t v r (Elsewhere _) = r
@@ -171,6 +175,7 @@ plain_built : (s : Slot) (e : EndView) → IsPlainAt e → IsPlainAt (once_built
 plain_built EchoSlot e r = r
 plain_built CookieAckSlot e r = r
 plain_built HeartbeatSlot e r = r
+plain_built BeatSlot e r = r
 plain_built ErrorSlot e r = r
 plain_built SackSlot e r = r
 plain_built ForwardSlot e r = r
@@ -199,17 +204,19 @@ plain_builds e zs t r (Fills _ _ ys x is puts) =
 plain_again : (a : Alarm) (e : EndView) → IsPlainAt e → IsPlainAt (due_again a e)
 plain_again InitAlarm e r = r
 plain_again CookieAlarm e r = r
-plain_again DataAlarm e r = none_from expired_pace e r
+plain_again DataAlarm e r = none_from (expired_pace e.sender) e r
 plain_again ShutdownAlarm e r = r
 plain_again AckAlarm e r = r
 plain_again ResetAlarm e r = r
+plain_again BeatAlarm e r = r
+plain_again GuardAlarm e r = r
 
 plain_rung : (b : Bool) (a : Alarm) (e : EndView) → IsPlainAt e → IsPlainAt (rung b a e)
 plain_rung false a e r = r
-plain_rung true a e r = go (nat_lt (e.timers a).repeats (repeats_of a))
+plain_rung true a e r = go (may_go_on a e)
   where
-    go : (c : Bool) → IsPlainAt (if c then due_again a (with_timer a (expired_timer (e.timers a)) e) else closed TimedOut e)
-    go true = plain_again a (with_timer a (expired_timer (e.timers a)) e) r
+    go : (c : Bool) → IsPlainAt (if c then due_again a (with_timer a (expired_timer e.configuration.longest_wait (e.timers a)) e) else closed TimedOut e)
+    go true = plain_again a (with_timer a (expired_timer e.configuration.longest_wait (e.timers a)) e) r
     go false = r
 
 plain_rung_all : (alarms : List Alarm) (e : EndView) → IsPlainAt e → IsPlainAt (rung_all alarms e)

@@ -1,7 +1,7 @@
 -- In every world of every run an endpoint that is set up without round trips has no pace.
 use Rattle.std.proofs.Common.{max, List, [], ◌∷◌, Option, None, refl, sym, subst, ◌≡◌, ap, ◌∙◌}
 use Rattle.sctp_model.specs.wire.Packet.{Packet}
-use Rattle.sctp_model.specs.end.EndView.{EndView, Configuration}
+use Rattle.sctp_model.specs.end.EndView.{EndView, Configuration, first_offer}
 use Rattle.sctp_model.specs.end.Arriving.{DroppedUnread, ReadAs, CutFirst, CutLater}
 use Rattle.sctp_model.specs.end.UserCalls.{shut, abort_answer, abort_leaves, reset_call, reset_leaves, reset_there, told_leaves}
 use Rattle.sctp_model.specs.world.World.{Side, A, B, World, end_of, end_now, start, Setup, configuration_of, clock_of}
@@ -24,7 +24,7 @@ at_both v a b A = a
 at_both v a b B = b
 
 pub plain_step : (w : World) (e : Event) (o : Option Outcome) (v : World) → ArePlain w → Step w e o v → ArePlain v
-plain_step w e o v r (OpensBoth x y like may dx dy) = at_both v (plain_anew v.a w.a.configuration.buffer refl) (plain_anew v.b w.b.configuration.buffer refl)
+plain_step w e o v r (OpensBoth x y like may dx dy) = at_both v (plain_anew v.a _ (first_offer w.a.configuration) refl) (plain_anew v.b _ (first_offer w.b.configuration) refl)
 plain_step w e o v r (OpenRefused x y closed) = r
 plain_step w e o v r (TimeGoesOn A m small) = at_both v (r A) (r B)
 plain_step w e o v r (TimeGoesOn B m small) = at_both v (r A) (r B)

@@ -4,7 +4,7 @@ use Rattle.std.specs.Prelude.{if◌then◌else◌, nat_lt}
 use Rattle.sctp_model.specs.wire.Packet.{Packet}
 use Rattle.sctp_model.specs.wire.Chunk.{ChunkMeaning, Data, IData, Init, InitAck, Sack, Heartbeat, HeartbeatAck, Abort, Shutdown, ShutdownAck, Error, CookieEcho, CookieAck, ShutdownComplete, ForwardTsn, IForwardTsn, Unknown}
 use Rattle.sctp_model.specs.world.Calls.{Call}
-use Rattle.sctp_model.specs.sender.SenderView.{SenderView, fresh_sender}
+use Rattle.sctp_model.specs.sender.SenderView.{SenderView, fresh_sender, SendLimits}
 use Rattle.sctp_model.specs.sender.Queueing.{Refusal, refusal}
 use Rattle.sctp_model.specs.sender.Readers.{point}
 use Rattle.sctp_model.specs.sender.Abandoning.{abandon_after, worn}
@@ -12,17 +12,20 @@ use Rattle.sctp_model.specs.sender.Abandoning.{expired as expired_messages}
 use Rattle.sctp_model.specs.sender.Reached.{IsReached, Begins, Queues, Covers, Abandons, Repeats, Rebases}
 use Rattle.sctp_model.specs.sender.Reached.{Closes as Shuts}
 use Rattle.sctp_model.specs.end.EndView.{Draw, Aborted, TimedOut, Established, ShutdownPending, ShutdownSent, ShutdownReceived, ShutdownAckSent, Phase, Idle, Listening, Calling, Echoing, Open, Over, Alarm, InitAlarm, CookieAlarm, DataAlarm, ShutdownAlarm, AckAlarm, EndView, format_of, has_association, ResetAlarm, Terms, Configuration, format_for}
-use Rattle.sctp_model.specs.end.Clock.{repeats_of, is_over_at, with_timer, closed, at_moment, settled, turned}
-use Rattle.sctp_model.specs.end.Clock.{expired_timer}
+use Rattle.sctp_model.specs.end.EndView.{BeatAlarm, GuardAlarm}
+use Rattle.sctp_model.specs.end.Clock.{is_over_at, with_timer, closed, at_moment, settled, turned}
+use Rattle.sctp_model.specs.end.Clock.{expired_timer, may_go_on}
 use Rattle.sctp_model.specs.end.Closing.{rested, hears}
 use Rattle.sctp_model.specs.end.PeerFaults.{GoesOn, Ends, Replies, Note, Unnoted}
 use Rattle.sctp_model.specs.end.Opening.{AcceptedAck, RefusedAck, EchoedAgain, CookieAcked, begun}
-use Rattle.sctp_model.specs.end.Acting.{Acts, ForwardComes, PieceComes, IsOld, SackStale, ShutdownStale, HeartbeatCounts, SackCounts, ShutdownCounts, Closes, SaysNothing, Crosses, Again, AckCompletes, CompleteCompleted, PieceEmpty, WrongFormat, SackWrong, ShutdownWrong, WrongKind, IsBad, ReconfigComes, IsUnknown}
+use Rattle.sctp_model.specs.end.Beating.{beat_heard}
+use Rattle.sctp_model.specs.end.Acting.{Acts, ForwardComes, PieceComes, IsOld, SackStale, ShutdownStale, HeartbeatCounts, SackCounts, ShutdownCounts, Closes, SaysNothing, Crosses, Again, AckCompletes, CompleteCompleted, PieceEmpty, WrongFormat, SackWrong, ShutdownWrong, WrongKind, IsBad, ReconfigComes, IsUnknown, Misnumbered}
 use Rattle.sctp_model.specs.end.Wearing.{missed_below, wearing}
 use Rattle.sctp_model.proofs.PacedEnds.{worn_cases}
 use Rattle.sctp_model.specs.end.Arriving.{AllAct, NoneLeft, Next, Passes, Last, EndsAnswered, Stopped, Arrives, Elsewhere, NotOurs, Stray, CookieBegins, Heard, Notes, no_notes, noted, urged, packet_ended}
 use Rattle.sctp_model.specs.end.Strays.{Verdict}
 use Rattle.sctp_model.specs.end.Building.{filled_behind, Slot, Puts, NoMore, NotDue, Put, IsFull, Builds, Sleeps, Waits, Calls, Echoes, EndsFull, Fills, EchoSlot, CookieAckSlot, HeartbeatSlot, ErrorSlot, SackSlot, ForwardSlot, ShutdownSlot, ShutdownAckSlot, once_built, room_behind, AnswerSlot, RequestSlot}
+use Rattle.sctp_model.specs.end.Building.{BeatSlot}
 use Rattle.sctp_model.specs.end.Moments.{after_abandoning, is_data_due, given_up, due_again, rung, ring, rung_all, all_alarms, waited_in, passed, ticked}
 use Rattle.sctp_model.specs.end.UserCalls.{is_established, answer_for, send_answer, send_leaves, NotOpen, is_open, abandoned_at, shut_in, shut, AbortAnswer, Aborts, NoPeer, TooLong, abort_leaves, ResetCall, Begun, NotAgreed, NoStream, reset_leaves, told_leaves}
 use Rattle.sctp_model.proofs.sender.FillLaws.{fill_is_fill}
@@ -45,9 +48,9 @@ abbrev pub IsReachedAt : EndView → Type 0
 IsReachedAt e = 0 < e.configuration.fragment → IsReached (format_of e) e.sender
 
 -- a sender as it is made, with this endpoint's fragments
-pub reached_anew : (e : EndView) (initial streams rwnd : ℕ) (partial : Bool) → e.sender ≡ fresh_sender initial streams e.configuration.fragment rwnd partial → IsReachedAt e
-reached_anew e initial streams rwnd partial is = λ some.
-    subst (λ (v : SenderView). IsReached (format_of e) v) (sym is) (Begins initial streams e.configuration.fragment rwnd partial some)
+pub reached_anew : (e : EndView) (initial streams rwnd : ℕ) (partial : Bool) (limits : SendLimits) → e.sender ≡ fresh_sender initial streams e.configuration.fragment rwnd partial limits → IsReachedAt e
+reached_anew e initial streams rwnd partial limits is = λ some.
+    subst (λ (v : SenderView). IsReached (format_of e) v) (sym is) (Begins initial streams e.configuration.fragment rwnd partial limits some)
 
 reached_rested : (e : EndView) → IsReachedAt e → IsReachedAt (rested e)
 reached_rested e r = rested_cases IsReachedAt e r (λ t is d. r) (λ t is d. r)
@@ -65,14 +68,14 @@ reached_asking e r = reached_reconfigured e (asking e) (asking_same e) r
 
 -- a chunk after which the packet goes on
 reached_goes : (e : EndView) (tag : ℕ) (x : ChunkMeaning) (y : Note) (t : EndView) → IsReachedAt e → Acts e tag x (GoesOn y t) → IsReachedAt t
-reached_goes e tag (Data p) y t r (PieceComes _ _ _ _ _ _ _ _ _) = r
-reached_goes e tag (IData p) y t r (PieceComes _ _ _ _ _ _ _ _ _) = r
+reached_goes e tag (Data p) y t r (PieceComes _ _ _ _ _ _ _ _ _ _) = r
+reached_goes e tag (IData p) y t r (PieceComes _ _ _ _ _ _ _ _ _ _) = r
 reached_goes e tag (Init m) y t r h = absurd (cc)
-reached_goes e tag (InitAck m) y t r (AcceptedAck _ _ _ _ _ _) = reached_anew t _ _ _ _ refl
+reached_goes e tag (InitAck m) y t r (AcceptedAck _ _ _ _ _ _) = reached_anew t _ _ _ _ _ refl
 reached_goes e tag (Sack s) y t r (SackStale _ _) = r
 reached_goes e tag (Sack s) y t r (SackCounts hears none) = λ some. heard_reached (format_of e) e.pace e.moment e.sender (sack_taken e.sender s) (Covers e.sender s (r some) none)
 reached_goes e tag (Heartbeat i) y t r (HeartbeatCounts _) = r
-reached_goes e tag (HeartbeatAck i) y t r h = let q : t ≡ e = cc in subst IsReachedAt (sym q) r
+reached_goes e tag (HeartbeatAck i) y t r h = let q : t ≡ beat_heard e i = cc in subst IsReachedAt (sym q) r
 reached_goes e tag (Abort b xs) y t r h = absurd (cc)
 reached_goes e tag (Shutdown n) y t r (ShutdownStale _ _ _ _ _) = r
 reached_goes e tag (Shutdown n) y t r (ShutdownCounts _ _ _ _ none) = λ some. heard_reached (format_of e) e.pace e.moment e.sender (shutdown_taken e.sender n) (Shuts e.sender n (r some) none)
@@ -114,8 +117,10 @@ reached_ends e tag (Unknown n f v) t r (IsUnknown _ _ h) = let u = unknown_ends 
 reached_replies : (e : EndView) (tag : ℕ) (x : ChunkMeaning) (t : EndView) (p : Packet) → IsReachedAt e → Acts e tag x (Replies t p) → IsReachedAt t
 reached_replies e tag (Data q) t p r (PieceEmpty _ _ _ _ _) = r
 reached_replies e tag (Data q) t p r (WrongFormat _ _ _ _ _ _) = r
+reached_replies e tag (Data q) t p r (Misnumbered _ _ _ _ _ _ _ _ _) = r
 reached_replies e tag (IData q) t p r (PieceEmpty _ _ _ _ _) = r
 reached_replies e tag (IData q) t p r (WrongFormat _ _ _ _ _ _) = r
+reached_replies e tag (IData q) t p r (Misnumbered _ _ _ _ _ _ _ _ _) = r
 reached_replies e tag (Init m) t p r h = absurd (cc)
 reached_replies e tag (InitAck m) t p r (RefusedAck _ _ _ _ _) = r
 reached_replies e tag (Sack s) t p r (SackWrong _ _ _ _ _) = r
@@ -159,7 +164,7 @@ reached_arrives e d p t v r (Elsewhere _) = r
 reached_arrives e d p t v r (NotOurs _ _) = r
 reached_arrives e d p t v r (Stray _ _ _ _) = r
 reached_arrives e d p t v r (CookieBegins b u n _ _ _ _ _ acts gap _) =
-    reached_ended (urged gap n) u (reached_acts p.tag (begun b e) (noted Unnoted no_notes) _ u n v (reached_anew (begun b e) _ _ _ _ refl) acts)
+    reached_ended (urged gap n) u (reached_acts p.tag (begun b e) (noted Unnoted no_notes) _ u n v (reached_anew (begun b e) _ _ _ _ _ refl) acts)
 reached_arrives e d p t v r (Heard u n _ _ _ _ acts gap _) =
     reached_ended (urged gap n) (wearing (missed_below e.pace) u) (reached_worn (missed_below e.pace) u (reached_acts p.tag e no_notes p.chunks u n v r acts))
 
@@ -169,6 +174,7 @@ reached_built : (s : Slot) (e : EndView) → IsReachedAt e → IsReachedAt (once
 reached_built EchoSlot e r = r
 reached_built CookieAckSlot e r = r
 reached_built HeartbeatSlot e r = r
+reached_built BeatSlot e r = r
 reached_built ErrorSlot e r = r
 reached_built SackSlot e r = r
 reached_built ForwardSlot e r = r
@@ -202,13 +208,15 @@ reached_again DataAlarm e r = λ some. Repeats e.sender (λ i. true) (r some)
 reached_again ShutdownAlarm e r = r
 reached_again AckAlarm e r = r
 reached_again ResetAlarm e r = reached_reconfigured e (due_again ResetAlarm e) (again_same e) r
+reached_again BeatAlarm e r = r
+reached_again GuardAlarm e r = r
 
 reached_rung : (b : Bool) (a : Alarm) (e : EndView) → IsReachedAt e → IsReachedAt (rung b a e)
 reached_rung false a e r = r
-reached_rung true a e r = go (nat_lt (e.timers a).repeats (repeats_of a))
+reached_rung true a e r = go (may_go_on a e)
   where
-    go : (c : Bool) → IsReachedAt (if c then due_again a (with_timer a (expired_timer (e.timers a)) e) else closed TimedOut e)
-    go true = reached_again a (with_timer a (expired_timer (e.timers a)) e) r
+    go : (c : Bool) → IsReachedAt (if c then due_again a (with_timer a (expired_timer e.configuration.longest_wait (e.timers a)) e) else closed TimedOut e)
+    go true = reached_again a (with_timer a (expired_timer e.configuration.longest_wait (e.timers a)) e) r
     go false = r
 
 reached_rung_all : (alarms : List Alarm) (e : EndView) → IsReachedAt e → IsReachedAt (rung_all alarms e)

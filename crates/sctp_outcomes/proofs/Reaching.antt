@@ -23,7 +23,7 @@ at_both v a b A = a
 at_both v a b B = b
 
 pub reached_step : (w : World) (e : Event) (o : Option Outcome) (v : World) → AreReached w → Step w e o v → AreReached v
-reached_step w e o v r (OpensBoth x y like may dx dy) = at_both v (reached_anew v.a _ _ _ _ refl) (reached_anew v.b _ _ _ _ refl)
+reached_step w e o v r (OpensBoth x y like may dx dy) = at_both v (reached_anew v.a _ _ _ _ _ refl) (reached_anew v.b _ _ _ _ _ refl)
 reached_step w e o v r (OpenRefused x y closed) = r
 reached_step w e o v r (TimeGoesOn A m small) = at_both v (r A) (r B)
 reached_step w e o v r (TimeGoesOn B m small) = at_both v (r A) (r B)
@@ -58,4 +58,4 @@ reached_run w es os v r (Then _ mid _ e rest o others step run) = reached_run mi
 
 pub senders_reached : (s : Setup) (es : List Event) (os : List (Option Outcome)) (w : World) → Run (start s) es os w → AreReached w
 senders_reached s es os w run =
-    reached_run (start s) es os w (at_both (start s) (reached_anew (start s).a _ _ _ _ refl) (reached_anew (start s).b _ _ _ _ refl)) run
+    reached_run (start s) es os w (at_both (start s) (reached_anew (start s).a _ _ _ _ _ refl) (reached_anew (start s).b _ _ _ _ _ refl)) run

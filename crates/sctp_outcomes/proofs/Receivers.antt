@@ -12,12 +12,13 @@ use Rattle.sctp_model.specs.end.Clock.{closed}
 use Rattle.sctp_model.specs.end.Closing.{rested}
 use Rattle.sctp_model.specs.end.PeerFaults.{GoesOn, Ends, Replies, Note, Unnoted}
 use Rattle.sctp_model.specs.end.Opening.{AcceptedAck, RefusedAck, EchoedAgain, CookieAcked, begun}
-use Rattle.sctp_model.specs.end.Acting.{Acts, ForwardComes, PieceComes, IsOld, SackStale, ShutdownStale, HeartbeatCounts, SackCounts, ShutdownCounts, Closes, SaysNothing, Crosses, Again, AckCompletes, CompleteCompleted, PieceEmpty, WrongFormat, SackWrong, ShutdownWrong, WrongKind, IsBad, ReconfigComes, IsUnknown}
+use Rattle.sctp_model.specs.end.Beating.{beat_heard}
+use Rattle.sctp_model.specs.end.Acting.{Acts, ForwardComes, PieceComes, IsOld, SackStale, ShutdownStale, HeartbeatCounts, SackCounts, ShutdownCounts, Closes, SaysNothing, Crosses, Again, AckCompletes, CompleteCompleted, PieceEmpty, WrongFormat, SackWrong, ShutdownWrong, WrongKind, IsBad, ReconfigComes, IsUnknown, Misnumbered}
 use Rattle.sctp_model.specs.end.Wearing.{missed_below, wearing}
 use Rattle.sctp_model.specs.end.Arriving.{AllAct, NoneLeft, Next, Last, EndsAnswered, Stopped, Arrives, Elsewhere, NotOurs, Stray, CookieBegins, Heard, DroppedUnread, ReadAs, CutFirst, CutLater, Notes, no_notes, noted, urged, packet_ended}
 use Rattle.sctp_model.specs.end.Arriving.{Passes}
 use Rattle.sctp_model.specs.end.Strays.{Verdict}
-use Rattle.sctp_model.specs.end.Building.{Slot, Puts, NoMore, NotDue, Put, IsFull, Builds, Sleeps, Waits, Calls, Echoes, Fills, EchoSlot, CookieAckSlot, HeartbeatSlot, ErrorSlot, SackSlot, ForwardSlot, ShutdownSlot, ShutdownAckSlot, once_built, AnswerSlot, RequestSlot}
+use Rattle.sctp_model.specs.end.Building.{Slot, Puts, NoMore, NotDue, Put, IsFull, Builds, Sleeps, Waits, Calls, Echoes, Fills, EchoSlot, CookieAckSlot, HeartbeatSlot, BeatSlot, ErrorSlot, SackSlot, ForwardSlot, ShutdownSlot, ShutdownAckSlot, once_built, AnswerSlot, RequestSlot}
 use Rattle.sctp_model.specs.end.Building.{EndsFull}
 use Rattle.sctp_model.specs.end.Moments.{ticked}
 use Rattle.sctp_model.specs.end.UserCalls.{send_answer, shut, abort_answer, abort_leaves, ResetCall, Begun, NotAgreed, NoStream, reset_call, reset_leaves, reset_there, told_leaves}
@@ -36,7 +37,7 @@ use Rattle.sctp_safety.proofs.machine.Reconfigured.{IsReconfigured, parameters_s
 
 -- What holds of a new receiver with so large a buffer, and is kept by each of its calls.
 pub record IsReceiverLaw (P : Format → (buffer : ℕ) → ReceiverView → Type 0) : Type 0 where
-  pub fresh : (f : Format) (i n b : ℕ) → P f b (fresh_receiver i n b)
+  pub fresh : (f : Format) (i n b v : ℕ) → P f b (fresh_receiver i n b v)
   pub piece : (f : Format) (b : ℕ) (r : ReceiverView) (p : PieceMeaning) (a : PieceAnswer) (t : ReceiverView) → P f b r → PieceTaken f r p a t → P f b t
   pub forward : (f : Format) (b : ℕ) (r : ReceiverView) (m : ForwardMeaning) (a : ForwardAnswer) (t : ReceiverView) → P f b r → ForwardTaken f r m a t → P f b t
   pub sent : (f : Format) (b : ℕ) (r : ReceiverView) → P f b r → P f b (sack_sent r)
@@ -70,14 +71,14 @@ module _ (P : Format → ℕ → ReceiverView → Type 0) (law : IsReceiverLaw P
 
   -- a chunk after which the packet goes on
   pub holds_goes : (e : EndView) (tag : ℕ) (x : ChunkMeaning) (y : Note) (t : EndView) → Holds e → Acts e tag x (GoesOn y t) → Holds t
-  holds_goes e tag (Data p) y t k (PieceComes u g a r _ _ _ _ came) = law.piece (format_of e) e.configuration.buffer e.receiver p a r k came
-  holds_goes e tag (IData p) y t k (PieceComes u g a r _ _ _ _ came) = law.piece (format_of e) e.configuration.buffer e.receiver p a r k came
+  holds_goes e tag (Data p) y t k (PieceComes u g a r _ _ _ _ came _) = law.piece (format_of e) e.configuration.buffer e.receiver p a r k came
+  holds_goes e tag (IData p) y t k (PieceComes u g a r _ _ _ _ came _) = law.piece (format_of e) e.configuration.buffer e.receiver p a r k came
   holds_goes e tag (Init m) y t k h = absurd (cc)
-  holds_goes e tag (InitAck m) y t k (AcceptedAck _ _ _ _ _ _) = law.fresh _ _ _ _
+  holds_goes e tag (InitAck m) y t k (AcceptedAck _ _ _ _ _ _) = law.fresh _ _ _ _ _
   holds_goes e tag (Sack s) y t k (SackStale _ _) = k
   holds_goes e tag (Sack s) y t k (SackCounts _ _) = k
   holds_goes e tag (Heartbeat i) y t k (HeartbeatCounts _) = k
-  holds_goes e tag (HeartbeatAck i) y t k h = let q : t ≡ e = cc in subst Holds (sym q) k
+  holds_goes e tag (HeartbeatAck i) y t k h = let q : t ≡ beat_heard e i = cc in subst Holds (sym q) k
   holds_goes e tag (Abort b xs) y t k h = absurd (cc)
   holds_goes e tag (Shutdown n) y t k (ShutdownStale _ _ _ _ _) = k
   holds_goes e tag (Shutdown n) y t k (ShutdownCounts _ _ _ _ _) = k
@@ -119,8 +120,10 @@ module _ (P : Format → ℕ → ReceiverView → Type 0) (law : IsReceiverLaw P
   holds_replies : (e : EndView) (tag : ℕ) (x : ChunkMeaning) (t : EndView) (p : Packet) → Holds e → Acts e tag x (Replies t p) → Holds t
   holds_replies e tag (Data q) t p k (PieceEmpty _ _ _ _ _) = k
   holds_replies e tag (Data q) t p k (WrongFormat _ _ _ _ _ _) = k
+  holds_replies e tag (Data q) t p k (Misnumbered _ _ _ _ _ _ _ _ _) = k
   holds_replies e tag (IData q) t p k (PieceEmpty _ _ _ _ _) = k
   holds_replies e tag (IData q) t p k (WrongFormat _ _ _ _ _ _) = k
+  holds_replies e tag (IData q) t p k (Misnumbered _ _ _ _ _ _ _ _ _) = k
   holds_replies e tag (Init m) t p k h = absurd (cc)
   holds_replies e tag (InitAck m) t p k (RefusedAck _ _ _ _ _) = k
   holds_replies e tag (Sack s) t p k (SackWrong _ _ _ _ _) = k
@@ -160,7 +163,7 @@ module _ (P : Format → ℕ → ReceiverView → Type 0) (law : IsReceiverLaw P
   holds_arrives e d p t v k (Elsewhere _) = k
   holds_arrives e d p t v k (NotOurs _ _) = k
   holds_arrives e d p t v k (Stray _ _ _ _) = k
-  holds_arrives e d p t v k (CookieBegins b u n _ _ _ _ _ acts gap _) = holds_ended (urged gap n) u (holds_acts p.tag (begun b e) (noted Unnoted no_notes) _ u n v (law.fresh _ _ _ _) acts)
+  holds_arrives e d p t v k (CookieBegins b u n _ _ _ _ _ acts gap _) = holds_ended (urged gap n) u (holds_acts p.tag (begun b e) (noted Unnoted no_notes) _ u n v (law.fresh _ _ _ _ _) acts)
   holds_arrives e d p t v k (Heard u n _ _ _ _ acts gap _) =
       holds_ended (urged gap n) (wearing (missed_below e.pace) u) (holds_worn (missed_below e.pace) u (holds_acts p.tag e no_notes p.chunks u n v k acts))
 
@@ -170,6 +173,7 @@ module _ (P : Format → ℕ → ReceiverView → Type 0) (law : IsReceiverLaw P
   holds_built EchoSlot e k = k
   holds_built CookieAckSlot e k = k
   holds_built HeartbeatSlot e k = k
+  holds_built BeatSlot e k = k
   holds_built ErrorSlot e k = k
   holds_built SackSlot e k = law.sent (format_of e) e.configuration.buffer e.receiver k
   holds_built ForwardSlot e k = k
@@ -213,8 +217,8 @@ module _ (P : Format → ℕ → ReceiverView → Type 0) (law : IsReceiverLaw P
   holds_step w e o v k (OpensBoth x y like may dx dy) = both
     where
       both : HoldsIn v
-      both A = law.fresh _ _ _ _
-      both B = law.fresh _ _ _ _
+      both A = law.fresh _ _ _ _ _
+      both B = law.fresh _ _ _ _ _
   holds_step w e o v k (OpenRefused x y closed) = k
   holds_step w e o v k (TimeGoesOn A m small) = both
     where
@@ -271,5 +275,5 @@ module _ (P : Format → ℕ → ReceiverView → Type 0) (law : IsReceiverLaw P
   holds_always s es os w run = holds_run (start s) es os w both run
     where
       both : HoldsIn (start s)
-      both A = law.fresh _ _ _ _
-      both B = law.fresh _ _ _ _
+      both A = law.fresh _ _ _ _ _
+      both B = law.fresh _ _ _ _ _

@@ -5,7 +5,7 @@ use Rattle.sctp_model.specs.wire.Chunk.{ChunkMeaning, Data, IData, Init, InitAck
 use Rattle.sctp_model.specs.end.EndView.{EndView}
 use Rattle.sctp_model.specs.end.PeerFaults.{Replies}
 use Rattle.sctp_model.specs.end.Opening.{RefusedAck}
-use Rattle.sctp_model.specs.end.Acting.{Acts, AckCompletes, PieceEmpty, WrongFormat, SackWrong, ShutdownWrong, WrongKind, IsBad, IsUnknown}
+use Rattle.sctp_model.specs.end.Acting.{Acts, AckCompletes, PieceEmpty, WrongFormat, SackWrong, ShutdownWrong, WrongKind, IsBad, IsUnknown, Misnumbered}
 use Rattle.sctp_model.specs.end.Arriving.{DroppedUnread, ReadAs, CutFirst, CutLater}
 use Rattle.sctp_safety.proofs.machine.EndWords.{Keeps, all_act_keeps}
 use Rattle.sctp_safety.proofs.machine.Sides.{goes_same, ends_same, same_rested, unknown_never_replies}
@@ -16,8 +16,10 @@ use Rattle.sctp_outcomes.specs.SetUp.{ChunksLeaveTheConfiguration, PacketsLeaveT
 replies_leave : (e : EndView) (tag : ℕ) (x : ChunkMeaning) (t : EndView) (p : Packet) → Acts e tag x (Replies t p) → t.configuration ≡ e.configuration
 replies_leave e tag (Data q) t p (PieceEmpty _ _ _ _ _) = refl
 replies_leave e tag (Data q) t p (WrongFormat _ _ _ _ _ _) = refl
+replies_leave e tag (Data q) t p (Misnumbered _ _ _ _ _ _ _ _ _) = refl
 replies_leave e tag (IData q) t p (PieceEmpty _ _ _ _ _) = refl
 replies_leave e tag (IData q) t p (WrongFormat _ _ _ _ _ _) = refl
+replies_leave e tag (IData q) t p (Misnumbered _ _ _ _ _ _ _ _ _) = refl
 replies_leave e tag (Init m) t p h = absurd (cc)
 replies_leave e tag (InitAck m) t p (RefusedAck _ _ _ _ _) = refl
 replies_leave e tag (Sack k) t p (SackWrong _ _ _ _ _) = refl

@@ -14,11 +14,13 @@ use Rattle.sctp_model.specs.end.Closing.{hears, takes_data, takes_acknowledgemen
 use Rattle.sctp_model.specs.end.PeerFaults.{After, GoesOn, PassedOver, Unnoted}
 use Rattle.sctp_model.specs.end.Options.{STATE_COOKIE, value_of}
 use Rattle.sctp_model.specs.end.Opening.{ack_fault, InitAckActs, NotCalling, NoTag, RefusedAck, AcceptedAck, seal_in, is_ours, cookie_read, EchoActs, NotHere, EchoedAgain, IsStrange, CookieAckActs, NotEchoing, CookieAcked}
-use Rattle.sctp_model.specs.end.Acting.{same_format, PieceActs, ForwardNotHeard, HeartbeatNotHeard, PieceNotHeard, SackNotHeard, PieceEmpty, WrongFormat, ForwardComes, PieceComes, may_forward, ForwardActs, WrongKind, IsBad, IsOld, SackActs, SackStale, ShutdownStale, SackWrong, ShutdownWrong, HeartbeatCounts, SackCounts, ShutdownCounts, HeartbeatActs, is_stale_cookie, ErrorActs, Closes, SaysNothing, ShutdownActs, ShutdownNotOpen, Crosses, Again, ShutdownAckActs, AckNotAwaited, CompleteNotAwaited, AckCompletes, CompleteCompleted, CompleteActs, Acts, OtherActs, ReconfigComes, IsUnknown}
+use Rattle.sctp_model.specs.end.Beating.{beat_heard}
+use Rattle.sctp_model.specs.end.Acting.{same_format, PieceActs, ForwardNotHeard, HeartbeatNotHeard, PieceNotHeard, SackNotHeard, PieceEmpty, WrongFormat, ForwardComes, PieceComes, may_forward, ForwardActs, WrongKind, IsBad, IsOld, SackActs, SackStale, ShutdownStale, SackWrong, ShutdownWrong, HeartbeatCounts, SackCounts, ShutdownCounts, HeartbeatActs, is_stale_cookie, ErrorActs, Closes, SaysNothing, ShutdownActs, ShutdownNotOpen, Crosses, Again, ShutdownAckActs, AckNotAwaited, CompleteNotAwaited, AckCompletes, CompleteCompleted, CompleteActs, Acts, OtherActs, ReconfigComes, IsUnknown, Misnumbered, is_refused}
 use Rattle.sctp_outcomes.specs.receiver.Steps.{cumulative, forward_step}
 use Rattle.sctp_outcomes.proofs.receiver.StepsLemmas.{cumulative_is, piece_steps, forward_steps}
 use Rattle.sctp_outcomes.proofs.Bounded.{IsBounded}
 use Rattle.sctp_model.specs.end.Reconfiguring.{takes_reconfig}
+use Rattle.sctp_model.proofs.receiver.OneStep.{cumulative_only}
 
 -- ---- in which states a chunk is heard
 
@@ -70,7 +72,13 @@ module _ (e : EndView) (tag : ℕ) (b : IsBounded (format_of e) e.receiver) wher
   piece f p = by (is_heard takes_data e.phase)
     where
       filled : (t : Tags) (g : Stage) → e.phase ≡ Open t g → takes_data g ≡ true → 0 < length p.bytes → (r : Bool) → same_format f (format_of e) ≡ r → (a : After) × PieceActs f e p a
-      filled t g is takes some true same = (_, PieceComes t g _ _ is takes some same (piece_steps (format_of e) e.receiver c p is_c))
+      filled t g is takes some true same = numbered (is_refused e c p) refl
+        where
+          numbered : (w : Bool) → is_refused e c p ≡ w → (a : After) × PieceActs f e p a
+          numbered true wrong = (_, Misnumbered t g c is takes some same is_c wrong)
+          numbered false right =
+              let k = piece_steps (format_of e) e.receiver c p is_c in
+              (_, PieceComes t g _ _ is takes some same k (subst (λ (n : ℕ). is_refused e n p ≡ false) (cumulative_only e.receiver c k.c is_c k.cumulative) right))
       filled t g is takes some false same = (_, WrongFormat t g is takes some same)
 
       sized : (t : Tags) (g : Stage) → e.phase ≡ Open t g → takes_data g ≡ true → (n : ℕ) → length p.bytes ≡ n → (a : After) × PieceActs f e p a
@@ -225,7 +233,7 @@ module _ (e : EndView) (tag : ℕ) (b : IsBounded (format_of e) e.receiver) wher
   acted (InitAck m) = let a = init_ack m in record { after = a.0; acts = a.1 }
   acted (Sack s) = let a = sack s in record { after = a.0; acts = a.1 }
   acted (Heartbeat info) = let a = heartbeat info in record { after = a.0; acts = a.1 }
-  acted (HeartbeatAck info) = record { after = GoesOn Unnoted e; acts = refl }
+  acted (HeartbeatAck info) = record { after = GoesOn Unnoted (beat_heard e info); acts = refl }
   acted (Abort shown causes) = record { after = _; acts = refl }
   acted (Shutdown n) = let a = shutdown n in record { after = a.0; acts = a.1 }
   acted ShutdownAck = let a = shutdown_ack in record { after = a.0; acts = a.1 }

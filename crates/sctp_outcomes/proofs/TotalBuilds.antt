@@ -5,7 +5,7 @@ use Rattle.sctp_model.specs.wire.Chunk.{SackMeaning, ChunkMeaning}
 use Rattle.sctp_model.specs.receiver.ReceiverView.{ReceiverView}
 use Rattle.sctp_model.specs.receiver.SackMade.{IsSack, sack_of}
 use Rattle.sctp_model.specs.end.EndView.{Tags, Draw, Stage, Phase, Idle, Listening, Calling, Echoing, Open, Over, EndView, format_of}
-use Rattle.sctp_model.specs.end.Building.{Slot, EchoSlot, CookieAckSlot, HeartbeatSlot, ErrorSlot, SackSlot, ForwardSlot, ShutdownSlot, ShutdownAckSlot, echoing_slots, open_slots, has_some, is_due, Wants, EchoCookie, AckCookie, AckHeartbeat, ReportCauses, Acknowledge, PassOn, SayShutdown, AnswerShutdown, has_room, Puts, NoMore, NotDue, Put, IsFull, Builds, Sleeps, Waits, Calls, Echoes, Fills, sent, fragments, once_built, AnswerSlot, RequestSlot, AnswerReset, AskReset}
+use Rattle.sctp_model.specs.end.Building.{Slot, EchoSlot, CookieAckSlot, HeartbeatSlot, BeatSlot, ErrorSlot, SackSlot, ForwardSlot, ShutdownSlot, ShutdownAckSlot, echoing_slots, open_slots, has_some, is_due, Wants, EchoCookie, AckCookie, AckHeartbeat, Beat, ReportCauses, Acknowledge, PassOn, SayShutdown, AnswerShutdown, has_room, Puts, NoMore, NotDue, Put, IsFull, Builds, Sleeps, Waits, Calls, Echoes, Fills, sent, fragments, once_built, AnswerSlot, RequestSlot, AnswerReset, AskReset, most_blocks}
 use Rattle.sctp_model.specs.end.Building.{EndsFull}
 use Rattle.sctp_outcomes.specs.receiver.Steps.{cumulative}
 use Rattle.sctp_outcomes.specs.receiver.Runs.{all_runs}
@@ -19,12 +19,12 @@ use Rattle.std.specs.Prelude.{is_some}
 use Rattle.std.proofs.lemmas.Bool.{and_parts}
 
 -- a view has a SACK
-sack_there : (f : _) (r : ReceiverView) → IsBounded f r → (s : SackMeaning) × IsSack r s
-sack_there f r b =
+sack_there : (f : _) (most : ℕ) (r : ReceiverView) → IsBounded f r → (s : SackMeaning) × IsSack most r s
+sack_there f most r b =
     let c = cumulative r b.bound in
     let is = cumulative_is r b.bound b.within in
     let runs = all_runs r c b.bound in
-    (sack_of r c runs, record { c = c; runs = runs; cumulative = is; all = runs_are r c b.bound b.within is; is = refl })
+    (sack_of most r c runs, record { c = c; runs = runs; cumulative = is; all = runs_are r c b.bound b.within is; is = refl })
 
 -- the chunk of a place that is due
 record Wanted (e : EndView) (s : Slot) : Type 0 where
@@ -43,8 +43,9 @@ wanted e HeartbeatSlot b quiet due = by e.due.heartbeat refl due
     by : (o : Option (List ℕ)) → e.due.heartbeat ≡ o → has_some o ≡ true → Wanted e HeartbeatSlot
     by None q h = absurd (cc)
     by (Some info) q h = record { chunk = _; wants = AckHeartbeat info q }
+wanted e BeatSlot b quiet due = record { chunk = _; wants = Beat }
 wanted e ErrorSlot b quiet due = record { chunk = _; wants = ReportCauses }
-wanted e SackSlot b quiet due = let s = sack_there (format_of e) e.receiver b in record { chunk = _; wants = Acknowledge s.0 s.1 }
+wanted e SackSlot b quiet due = let s = sack_there (format_of e) (most_blocks e.configuration) e.receiver b in record { chunk = _; wants = Acknowledge s.0 s.1 }
 wanted e ForwardSlot b quiet due = record { chunk = _; wants = PassOn }
 wanted e AnswerSlot b quiet due = record { chunk = _; wants = AnswerReset }
 wanted e RequestSlot b quiet due = by e.sender.resets.pending refl (and_parts e.due.request (is_some e.sender.resets.pending) due).1
@@ -89,7 +90,8 @@ no_echo_open s (inr (inr (inr (inr (inr (inl e)))))) = subst (λ (r : Slot). is_
 no_echo_open s (inr (inr (inr (inr (inr (inr (inl e))))))) = subst (λ (r : Slot). is_echo r ≡ false) e refl
 no_echo_open s (inr (inr (inr (inr (inr (inr (inr (inl e)))))))) = subst (λ (r : Slot). is_echo r ≡ false) e refl
 no_echo_open s (inr (inr (inr (inr (inr (inr (inr (inr (inl e))))))))) = subst (λ (r : Slot). is_echo r ≡ false) e refl
-no_echo_open s (inr (inr (inr (inr (inr (inr (inr (inr (inr none))))))))) = elim none [ ]
+no_echo_open s (inr (inr (inr (inr (inr (inr (inr (inr (inr (inl e)))))))))) = subst (λ (r : Slot). is_echo r ≡ false) e refl
+no_echo_open s (inr (inr (inr (inr (inr (inr (inr (inr (inr (inr none)))))))))) = elim none [ ]
 
 no_echo_error : (s : Slot) → Has (ErrorSlot ∷ []) s → is_echo s ≡ false
 no_echo_error s (inl e) = subst (λ (r : Slot). is_echo r ≡ false) e refl

@@ -53,8 +53,8 @@ arrived e d p bound = ports (has_ports e.configuration p) refl
     opened : has_ports e.configuration p ≡ true → passes e.phase p ≡ true → has_association e.phase ≡ false → (o : Option Body) → opened_by e p ≡ o → Arrived e d p
     opened a t none None q = record { last = e; verdict = stray_verdict e d p; arrives = Stray a t none q }
     opened a t none (Some y) q =
-        let r = all_acted p.tag (begun y e) (noted Unnoted no_notes) (drop 1 p.chunks) (bounded_law.fresh _ _ _ _) in
-        let g = gap_left p.tag (begun y e) (noted Unnoted no_notes) (drop 1 p.chunks) (bounded_law.fresh _ _ _ _) r in
+        let r = all_acted p.tag (begun y e) (noted Unnoted no_notes) (drop 1 p.chunks) (bounded_law.fresh _ _ _ _ _) in
+        let g = gap_left p.tag (begun y e) (noted Unnoted no_notes) (drop 1 p.chunks) (bounded_law.fresh _ _ _ _ _) r in
         record { last = packet_ended (urged g.0 r.notes) r.last; verdict = r.verdict; arrives = CookieBegins y r.last r.notes r.verdict a t none q r.acts g.0 (λ on. g.1) }
 
     joined : has_ports e.configuration p ≡ true → passes e.phase p ≡ true → (h : Bool) → has_association e.phase ≡ h → Arrived e d p

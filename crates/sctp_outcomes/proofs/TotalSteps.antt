@@ -55,7 +55,7 @@ module _ (w : World) (bounded : HoldsIn (Whatever IsBounded) bounded_law w) wher
   taking x n = go ((end_of w x).receiver.waiting n) refl
     where
       go : (hs : List Handed) → (end_of w x).receiver.waiting n ≡ hs → HasOutcome w (Take x n)
-      go [] q = (_, _, TakesOne x n None (end_of w x) (record { receiver = (end_of w x).receiver; takes = (q, refl); leaves = refl }))
+      go [] q = (_, _, TakesOne x n None _ (record { receiver = (end_of w x).receiver; takes = (q, refl); leaves = refl }))
       go (h ∷ hs) q = (_, _, TakesOne x n (Some h) _ (record { receiver = _; takes = (hs, q, refl); leaves = refl }))
 
   has_outcome : (e : Event) → CanHappen w e → HasOutcome w e

@@ -5,8 +5,8 @@ use Rattle.sctp_model.specs.world.Calls.{Call}
 use Rattle.sctp_model.specs.sender.SenderView.{SenderView}
 use Rattle.sctp_model.specs.sender.Readers.{point}
 use Rattle.sctp_model.specs.sender.Abandoning.{abandon_after, worn}
-use Rattle.sctp_model.specs.end.EndView.{TimedOut, Phase, Idle, Listening, Calling, Echoing, Open, Over, Established, ShutdownPending, ShutdownSent, ShutdownReceived, ShutdownAckSent, Alarm, InitAlarm, CookieAlarm, DataAlarm, ShutdownAlarm, AckAlarm, EndView, has_association, ResetAlarm}
-use Rattle.sctp_model.specs.end.Clock.{at_moment, closed, settled, turned, with_timer, is_over_at, repeats_of}
+use Rattle.sctp_model.specs.end.EndView.{TimedOut, Phase, Idle, Listening, Calling, Echoing, Open, Over, Established, ShutdownPending, ShutdownSent, ShutdownReceived, ShutdownAckSent, Alarm, InitAlarm, CookieAlarm, DataAlarm, ShutdownAlarm, AckAlarm, EndView, has_association, ResetAlarm, BeatAlarm, GuardAlarm}
+use Rattle.sctp_model.specs.end.Clock.{at_moment, closed, settled, turned, with_timer, is_over_at, may_go_on}
 use Rattle.sctp_model.specs.end.Clock.{expired_timer}
 use Rattle.sctp_model.specs.end.Closing.{rested}
 use Rattle.sctp_model.specs.end.Moments.{after_abandoning, is_data_due, given_up, due_again, rung, ring, rung_all, all_alarms, waited_in, waited, passed, ticked}
@@ -48,15 +48,17 @@ unheard_again DataAlarm e = record { receiver = refl; terms = refl; configuratio
 unheard_again ShutdownAlarm e = record { receiver = refl; terms = refl; configuration = refl }
 unheard_again AckAlarm e = record { receiver = refl; terms = refl; configuration = refl }
 unheard_again ResetAlarm e = record { receiver = refl; terms = refl; configuration = refl }
+unheard_again BeatAlarm e = record { receiver = refl; terms = refl; configuration = refl }
+unheard_again GuardAlarm e = record { receiver = refl; terms = refl; configuration = refl }
 
 pub unheard_rung : (b : Bool) (a : Alarm) (e : EndView) → IsUnheard e (rung b a e)
 unheard_rung false a e = unheard e
-unheard_rung true a e = go (nat_lt (e.timers a).repeats (repeats_of a))
+unheard_rung true a e = go (may_go_on a e)
   where
-    go : (c : Bool) → IsUnheard e (if c then due_again a (with_timer a (expired_timer (e.timers a)) e) else closed TimedOut e)
+    go : (c : Bool) → IsUnheard e (if c then due_again a (with_timer a (expired_timer e.configuration.longest_wait (e.timers a)) e) else closed TimedOut e)
     go true =
-        unheard_on e (with_timer a (expired_timer (e.timers a)) e) (due_again a (with_timer a (expired_timer (e.timers a)) e))
-        (record { receiver = refl; terms = refl; configuration = refl }) (unheard_again a (with_timer a (expired_timer (e.timers a)) e))
+        unheard_on e (with_timer a (expired_timer e.configuration.longest_wait (e.timers a)) e) (due_again a (with_timer a (expired_timer e.configuration.longest_wait (e.timers a)) e))
+        (record { receiver = refl; terms = refl; configuration = refl }) (unheard_again a (with_timer a (expired_timer e.configuration.longest_wait (e.timers a)) e))
     go false = record { receiver = refl; terms = refl; configuration = refl }
 
 pub unheard_all : (alarms : List Alarm) (e : EndView) → IsUnheard e (rung_all alarms e)

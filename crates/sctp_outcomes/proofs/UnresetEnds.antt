@@ -8,18 +8,19 @@ use Rattle.sctp_model.specs.sender.SenderView.{SenderView}
 use Rattle.sctp_model.specs.sender.Queueing.{Refusal, refusal}
 use Rattle.sctp_model.specs.sender.Readers.{point}
 use Rattle.sctp_model.specs.sender.Abandoning.{abandon_after, worn}
-use Rattle.sctp_model.specs.end.EndView.{Terms, Draw, Aborted, TimedOut, Established, ShutdownPending, ShutdownSent, ShutdownReceived, ShutdownAckSent, Phase, Idle, Listening, Calling, Echoing, Open, Over, Alarm, InitAlarm, CookieAlarm, DataAlarm, ShutdownAlarm, AckAlarm, EndView, has_association, ResetAlarm, Configuration}
-use Rattle.sctp_model.specs.end.Clock.{repeats_of, is_over_at, with_timer, closed, at_moment, settled, turned}
+use Rattle.sctp_model.specs.end.EndView.{Terms, Draw, Aborted, TimedOut, Established, ShutdownPending, ShutdownSent, ShutdownReceived, ShutdownAckSent, Phase, Idle, Listening, Calling, Echoing, Open, Over, Alarm, InitAlarm, CookieAlarm, DataAlarm, ShutdownAlarm, AckAlarm, EndView, has_association, ResetAlarm, BeatAlarm, GuardAlarm, Configuration}
+use Rattle.sctp_model.specs.end.Clock.{may_go_on, is_over_at, with_timer, closed, at_moment, settled, turned}
 use Rattle.sctp_model.specs.end.Clock.{expired_timer}
 use Rattle.sctp_model.specs.end.Closing.{rested, hears}
 use Rattle.sctp_model.specs.end.PeerFaults.{GoesOn, Ends, Replies, Note, Unnoted}
 use Rattle.sctp_model.specs.end.Opening.{AcceptedAck, RefusedAck, EchoedAgain, CookieAcked, begun, is_formed}
-use Rattle.sctp_model.specs.end.Acting.{Acts, ForwardComes, PieceComes, IsOld, SackStale, ShutdownStale, HeartbeatCounts, SackCounts, ShutdownCounts, Closes, SaysNothing, Crosses, Again, AckCompletes, CompleteCompleted, PieceEmpty, WrongFormat, SackWrong, ShutdownWrong, WrongKind, IsBad, ReconfigComes, IsUnknown}
+use Rattle.sctp_model.specs.end.Beating.{beat_heard}
+use Rattle.sctp_model.specs.end.Acting.{Acts, ForwardComes, PieceComes, IsOld, SackStale, ShutdownStale, HeartbeatCounts, SackCounts, ShutdownCounts, Closes, SaysNothing, Crosses, Again, AckCompletes, CompleteCompleted, PieceEmpty, WrongFormat, SackWrong, ShutdownWrong, WrongKind, IsBad, ReconfigComes, IsUnknown, Misnumbered}
 use Rattle.sctp_model.specs.end.Wearing.{missed_below, wearing}
 use Rattle.sctp_model.proofs.PacedEnds.{worn_cases}
 use Rattle.sctp_model.specs.end.Arriving.{AllAct, NoneLeft, Next, Passes, Last, EndsAnswered, Stopped, Arrives, Elsewhere, NotOurs, Stray, CookieBegins, Heard, Notes, no_notes, noted, urged, packet_ended}
 use Rattle.sctp_model.specs.end.Strays.{Verdict}
-use Rattle.sctp_model.specs.end.Building.{Slot, Puts, NoMore, NotDue, Put, IsFull, Builds, Sleeps, Waits, Calls, Echoes, EndsFull, Fills, EchoSlot, CookieAckSlot, HeartbeatSlot, ErrorSlot, SackSlot, ForwardSlot, ShutdownSlot, ShutdownAckSlot, once_built, AnswerSlot, RequestSlot}
+use Rattle.sctp_model.specs.end.Building.{Slot, Puts, NoMore, NotDue, Put, IsFull, Builds, Sleeps, Waits, Calls, Echoes, EndsFull, Fills, EchoSlot, CookieAckSlot, HeartbeatSlot, BeatSlot, ErrorSlot, SackSlot, ForwardSlot, ShutdownSlot, ShutdownAckSlot, once_built, AnswerSlot, RequestSlot}
 use Rattle.sctp_model.specs.end.Moments.{after_abandoning, is_data_due, given_up, due_again, rung, ring, rung_all, all_alarms, waited_in, passed, ticked}
 use Rattle.sctp_model.specs.end.UserCalls.{is_established, answer_for, send_answer, send_leaves, NotOpen, is_open, abandoned_at, shut_in, shut, AbortAnswer, Aborts, NoPeer, TooLong, abort_leaves, ResetCall, Begun, NotAgreed, NoStream, reset_leaves, told_leaves}
 use Rattle.sctp_safety.proofs.machine.EndWords.{rested_cases, ended_cases}
@@ -31,6 +32,7 @@ use Rattle.sctp_model.specs.end.Sealing.{Body}
 use Rattle.sctp_model.specs.end.Options.{agreed_reset, lists_type, value_of, SUPPORTED_EXTENSIONS}
 use Rattle.sctp_model.specs.wire.Reconfig.{RECONFIG}
 use Rattle.sctp_safety.proofs.machine.Strangers.{found_is}
+use Rattle.std.proofs.lemmas.Bool.{and_parts}
 
 -- ---- an endpoint
 
@@ -42,7 +44,7 @@ agreed_off : (c : Configuration) (xs : List ℕ) → c.reset ≡ false → agree
 agreed_off c xs off = ap (λ (b : Bool). b && lists_type RECONFIG (value_of SUPPORTED_EXTENSIONS xs)) off
 
 formed_off : (e : EndView) (b : Body) → is_formed e b ≡ true → e.configuration.reset ≡ false → b.reset ≡ false
-formed_off e b formed off = by e.configuration.reset b.reset formed off
+formed_off e b formed off = by e.configuration.reset b.reset (and_parts (e.configuration.reset || not b.reset) (e.configuration.zero_checksum || not b.zero_checksum) formed).0 off
   where
     by : (c r : Bool) → (c || not r) ≡ true → c ≡ false → r ≡ false
     by true r h on = absurd (cc)
@@ -62,14 +64,14 @@ unreset_asking e r = unreset_reconfigured e (asking e) (asking_same e) r
 
 -- a chunk after which the packet goes on
 unreset_goes : (e : EndView) (tag : ℕ) (x : ChunkMeaning) (y : Note) (t : EndView) → IsUnresetAt e → Acts e tag x (GoesOn y t) → IsUnresetAt t
-unreset_goes e tag (Data p) y t r (PieceComes _ _ _ _ _ _ _ _ _) = r
-unreset_goes e tag (IData p) y t r (PieceComes _ _ _ _ _ _ _ _ _) = r
+unreset_goes e tag (Data p) y t r (PieceComes _ _ _ _ _ _ _ _ _ _) = r
+unreset_goes e tag (IData p) y t r (PieceComes _ _ _ _ _ _ _ _ _ _) = r
 unreset_goes e tag (Init m) y t r h = absurd (cc)
 unreset_goes e tag (InitAck m) y t r (AcceptedAck _ _ _ _ _ _) = agreed_off e.configuration m.parameters
 unreset_goes e tag (Sack s) y t r (SackStale _ _) = r
 unreset_goes e tag (Sack s) y t r (SackCounts hears none) = r
 unreset_goes e tag (Heartbeat i) y t r (HeartbeatCounts _) = r
-unreset_goes e tag (HeartbeatAck i) y t r h = let q : t ≡ e = cc in subst IsUnresetAt (sym q) r
+unreset_goes e tag (HeartbeatAck i) y t r h = let q : t ≡ beat_heard e i = cc in subst IsUnresetAt (sym q) r
 unreset_goes e tag (Abort b xs) y t r h = absurd (cc)
 unreset_goes e tag (Shutdown n) y t r (ShutdownStale _ _ _ _ _) = r
 unreset_goes e tag (Shutdown n) y t r (ShutdownCounts _ _ _ _ none) = r
@@ -111,8 +113,10 @@ unreset_ends e tag (Unknown n f v) t r (IsUnknown _ _ h) = let u = unknown_ends 
 unreset_replies : (e : EndView) (tag : ℕ) (x : ChunkMeaning) (t : EndView) (p : Packet) → IsUnresetAt e → Acts e tag x (Replies t p) → IsUnresetAt t
 unreset_replies e tag (Data q) t p r (PieceEmpty _ _ _ _ _) = r
 unreset_replies e tag (Data q) t p r (WrongFormat _ _ _ _ _ _) = r
+unreset_replies e tag (Data q) t p r (Misnumbered _ _ _ _ _ _ _ _ _) = r
 unreset_replies e tag (IData q) t p r (PieceEmpty _ _ _ _ _) = r
 unreset_replies e tag (IData q) t p r (WrongFormat _ _ _ _ _ _) = r
+unreset_replies e tag (IData q) t p r (Misnumbered _ _ _ _ _ _ _ _ _) = r
 unreset_replies e tag (Init m) t p r h = absurd (cc)
 unreset_replies e tag (InitAck m) t p r (RefusedAck _ _ _ _ _) = r
 unreset_replies e tag (Sack s) t p r (SackWrong _ _ _ _ _) = r
@@ -166,6 +170,7 @@ unreset_built : (s : Slot) (e : EndView) → IsUnresetAt e → IsUnresetAt (once
 unreset_built EchoSlot e r = r
 unreset_built CookieAckSlot e r = r
 unreset_built HeartbeatSlot e r = r
+unreset_built BeatSlot e r = r
 unreset_built ErrorSlot e r = r
 unreset_built SackSlot e r = r
 unreset_built ForwardSlot e r = r
@@ -197,13 +202,15 @@ unreset_again DataAlarm e r = r
 unreset_again ShutdownAlarm e r = r
 unreset_again AckAlarm e r = r
 unreset_again ResetAlarm e r = r
+unreset_again BeatAlarm e r = r
+unreset_again GuardAlarm e r = r
 
 unreset_rung : (b : Bool) (a : Alarm) (e : EndView) → IsUnresetAt e → IsUnresetAt (rung b a e)
 unreset_rung false a e r = r
-unreset_rung true a e r = go (nat_lt (e.timers a).repeats (repeats_of a))
+unreset_rung true a e r = go (may_go_on a e)
   where
-    go : (c : Bool) → IsUnresetAt (if c then due_again a (with_timer a (expired_timer (e.timers a)) e) else closed TimedOut e)
-    go true = unreset_again a (with_timer a (expired_timer (e.timers a)) e) r
+    go : (c : Bool) → IsUnresetAt (if c then due_again a (with_timer a (expired_timer e.configuration.longest_wait (e.timers a)) e) else closed TimedOut e)
+    go true = unreset_again a (with_timer a (expired_timer e.configuration.longest_wait (e.timers a)) e) r
     go false = r
 
 unreset_rung_all : (alarms : List Alarm) (e : EndView) → IsUnresetAt e → IsUnresetAt (rung_all alarms e)

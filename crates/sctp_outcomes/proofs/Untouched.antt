@@ -13,6 +13,8 @@ use Rattle.sctp_model.specs.end.Closing.{takes_acknowledgements, hears, rested, 
 use Rattle.sctp_model.specs.end.Reports.{with_causes, causes_with}
 use Rattle.sctp_model.specs.end.PeerFaults.{COOKIE, Note, Unnoted, ToAcknowledge, GoesOn, Drops}
 use Rattle.sctp_model.specs.end.Opening.{is_calling, NoTag, AcceptedAck, EchoedAgain, IsStrange, CookieAcked, begun}
+use Rattle.sctp_model.specs.end.Beating.{beat_heard}
+use Rattle.sctp_model.proofs.PacedEnds.{unanswered}
 use Rattle.sctp_model.specs.end.Acting.{Acts, PieceComes, IsOld, ForwardComes, SackStale, SackCounts, HeartbeatCounts, SaysNothing, ShutdownStale, ShutdownCounts, Crosses, Again, may_report, unknown_item, unknown_causes, unknown_leaves, ReconfigComes, IsUnknown}
 use Rattle.sctp_model.specs.end.Strays.{Verdict, Dropped, opened_by}
 use Rattle.sctp_model.specs.end.Wearing.{missed_below, wearing}
@@ -54,14 +56,18 @@ reports_nothing e k f v on = go e.phase on (chunk_rule k).report
 
 -- a chunk after which it waits still changed nothing
 still_calling : (e : EndView) (tag : ℕ) (x : ChunkMeaning) (y : Note) (t : EndView) → Acts e tag x (GoesOn y t) → is_calling t.phase ≡ true → t ≡ e
-still_calling e tag (Data p) y t (PieceComes u g a r is _ _ _ came) on = not_open e.phase (Open u g) refl is on
-still_calling e tag (IData p) y t (PieceComes u g a r is _ _ _ came) on = not_open e.phase (Open u g) refl is on
+still_calling e tag (Data p) y t (PieceComes u g a r is _ _ _ came _) on = not_open e.phase (Open u g) refl is on
+still_calling e tag (IData p) y t (PieceComes u g a r is _ _ _ came _) on = not_open e.phase (Open u g) refl is on
 still_calling e tag (Init m) y t h on = absurd (cc)
 still_calling e tag (InitAck m) y t (AcceptedAck _ _ _ _ _ _) on = absurd (cc)
 still_calling e tag (Sack k) y t (SackStale _ _) on = refl
 still_calling e tag (Sack k) y t (SackCounts heard _) on = not_heard takes_acknowledgements e.phase heard on
 still_calling e tag (Heartbeat i) y t (HeartbeatCounts heard) on = not_heard (λ g. true) e.phase heard on
-still_calling e tag (HeartbeatAck i) y t h on = cc
+still_calling e tag (HeartbeatAck i) y t h on = let q : t ≡ beat_heard e i = cc in q ∙ go (hears (λ g. true) e.phase) refl (subst (λ (z : EndView). is_calling z.phase ≡ true) q on)
+  where
+    go : (b : Bool) → hears (λ g. true) e.phase ≡ b → is_calling e.phase ≡ true → beat_heard e i ≡ e
+    go true heard calls = not_heard (λ g. true) e.phase heard calls
+    go false off calls = unanswered e i (rw off refl)
 still_calling e tag (Abort b xs) y t h on = absurd (cc)
 still_calling e tag (Shutdown n) y t (ShutdownStale _ _ _ _ _) on = absurd (cc)
 still_calling e tag (Shutdown n) y t (ShutdownCounts _ _ _ _ _) on = absurd (cc)

@@ -6,3 +6,4 @@ pub mod StepsLemmas
 pub mod RunsLemmas
 pub mod LawLemmas
 pub mod Examples
+pub mod StrictExamples

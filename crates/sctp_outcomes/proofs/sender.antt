@@ -1,9 +1,13 @@
 pub mod Makers
 pub mod FillExamples
 pub mod SackExamples
+pub mod ControlExamples
 pub mod PaceExamples
+pub mod AgainExamples
 pub mod EndExamples
+pub mod BeatExamples
 pub mod ResetExamples
+pub mod AliveExamples
 pub mod AbandonExamples
 pub mod QueueExamples
 pub mod WindowExamples

@@ -7,6 +7,9 @@ pub mod Abandoning
 pub mod Ending
 pub mod TwoClocks
 pub mod TwoResets
+pub mod TwoMessages
+pub mod Reused
+pub mod ReusedRun
 pub mod ScriptOpening
 pub mod ScriptSending
 pub mod ScriptClosing

@@ -7,3 +7,5 @@ pub mod Promised
 pub mod Parted
 pub mod PartedRuns
 pub mod ReportedOnce
+pub mod AllReported
+pub mod Placed

@@ -9,7 +9,7 @@ use Rattle.sctp_model.specs.sender.Entries.{entry_lane, entry_number}
 use Rattle.sctp_model.specs.sender.Filling.{begun_tickets, newly_numbered}
 use Rattle.sctp_model.specs.receiver.ReceiverView.{Handed, fresh_receiver}
 use Rattle.sctp_model.specs.world.Calls.{Call}
-use Rattle.sctp_model.specs.end.EndView.{Configuration, Draw, Phase, Idle, Listening, Calling, Echoing, Open, Over, Role, EndView, fresh_end}
+use Rattle.sctp_model.specs.end.EndView.{Configuration, Draw, Phase, Idle, Listening, Calling, Echoing, Open, Over, Role, EndView, fresh_end, send_limits}
 use Rattle.sctp_model.specs.end.Clock.{at_moment}
 use Rattle.sctp_model.specs.end.Opening.{opened}
 use Rattle.sctp_model.specs.end.Strays.{Verdict}
@@ -32,8 +32,8 @@ is_before (Over why) = false
 
 -- Its sender and its receiver are empty: they are as they are made.
 pub record IsUnused (e : EndView) : Type 0 where
-  pub sender : e.sender ≡ fresh_sender 0 0 e.configuration.fragment 0 false
-  pub receiver : e.receiver ≡ fresh_receiver 0 0 e.configuration.buffer
+  pub sender : e.sender ≡ fresh_sender 0 0 e.configuration.fragment 0 false (send_limits e.configuration)
+  pub receiver : e.receiver ≡ fresh_receiver 0 0 e.configuration.buffer e.configuration.reserve
 
 -- So it is before an association.
 abbrev pub IsBare : EndView → Type 0

@@ -7,6 +7,8 @@ pub mod Script
 pub mod Views
 pub mod NeverHeld
 pub mod NeverReset
+pub mod NeverBeats
+pub mod Reserves
 pub mod Resets
 pub mod Kept
 pub mod Untouched
@@ -16,4 +18,5 @@ pub mod Few
 pub mod AgedSinceBuilt
 pub mod Users
 pub mod Parted
+pub mod AllReported
 pub mod Clocks

@@ -1,4 +1,4 @@
--- Congestion control is one more reason not to send, and it passes: no endpoint with a pace is kept from sending for ever.
+-- Congestion control is one more reason not to send, and it passes: no endpoint is kept from sending for ever.
 use Rattle.std.specs.Prelude.{◌≡◌, ℕ, ◌-◌, ◌<◌, true, List, Some, false, None, Option}
 use Rattle.sctp_model.specs.wire.Chunk.{ChunkMeaning}
 use Rattle.sctp_model.specs.wire.Packet.{size_of_packet}
@@ -12,11 +12,12 @@ use Rattle.sctp_model.specs.world.Events.{Event, Outcome}
 use Rattle.sctp_model.specs.world.Premises.{IsReachable}
 use Rattle.sctp_model.specs.world.Steps.{Run}
 
--- If nothing is in flight, fragments have all the space that a packet leaves; if something is, the data timer runs, whose expiry marks all of it (RFC 9260,
--- 6.1, 6.3.2 and 6.3.3).
+-- If nothing is in flight, fragments have all the space that a packet leaves; if something is, the data timer of an open endpoint runs, whose expiry marks
+-- all of it
+-- (RFC 9260, 6.1, 6.3.2 and 6.3.3).
 pub record IsNeverHeld (e : EndView) : Type 0 where
   pub free : in_flight e.sender ≡ 0 → (xs : List ChunkMeaning) → room_behind e xs ≡ e.configuration.limit - size_of_packet xs
-  pub wakes : is_open e.phase ≡ true → (p : Pace) → e.pace ≡ Some p → 0 < in_flight e.sender → (m : ℕ) × ((e.timers DataAlarm).expiry ≡ Some m)
+  pub wakes : is_open e.phase ≡ true → 0 < in_flight e.sender → (m : ℕ) × ((e.timers DataAlarm).expiry ≡ Some m)
 
 -- So it is at both endpoints, in every world of every run that meets the premises.
 abbrev pub NoneIsHeldForEver : Type 0

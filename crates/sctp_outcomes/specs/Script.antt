@@ -12,7 +12,7 @@ use Rattle.sctp_model.specs.world.World.{A, B, World, Setup, start}
 use Rattle.sctp_model.specs.world.Events.{Event, Drawing, Connect, Build, Deliver, Send, Take, Shutdown, Outcome, Done, Sent, Acted, Answered, NotActed}
 use Rattle.sctp_model.specs.world.Events.{Told, Message}
 use Rattle.sctp_model.specs.world.Steps.{Run}
-use Rattle.sctp_model.specs.numbers.Limits.{LEAST_WAIT}
+use Rattle.sctp_model.specs.numbers.Limits.{LEAST_WAIT, LONGEST_MESSAGE, FIRST_WAIT, LONGEST_WAIT, REPEATS, OPENING_REPEATS}
 
 -- packets of at most 1,500 bytes, fragments of 1,400, a buffer of 65,536, one stream each way, DATA without partial reliability
 abbrev pub script_setup : Sealing → Setup
@@ -33,6 +33,22 @@ script_setup sealing = record {
     least_wait = LEAST_WAIT;
     congestion_control = false;
     reset = false;
+    first_wait = FIRST_WAIT;
+    longest_wait = LONGEST_WAIT;
+    repeats = REPEATS;
+    opening_repeats = OPENING_REPEATS;
+    heartbeat = None;
+    progress = false;
+    guard = false;
+    updates = false;
+    reserve = 0;
+    all_blocks = false;
+    growth = 1;
+    cubic = false;
+    longest_message = LONGEST_MESSAGE;
+    queue_bytes = None;
+    strict = false;
+    zero_checksum = false;
   };
   of_b = record {
     own_port = 0;
@@ -50,6 +66,22 @@ script_setup sealing = record {
     least_wait = LEAST_WAIT;
     congestion_control = false;
     reset = false;
+    first_wait = FIRST_WAIT;
+    longest_wait = LONGEST_WAIT;
+    repeats = REPEATS;
+    opening_repeats = OPENING_REPEATS;
+    heartbeat = None;
+    progress = false;
+    guard = false;
+    updates = false;
+    reserve = 0;
+    all_blocks = false;
+    growth = 1;
+    cubic = false;
+    longest_message = LONGEST_MESSAGE;
+    queue_bytes = None;
+    strict = false;
+    zero_checksum = false;
   };
   a_port = 5000;
   b_port = 5001;

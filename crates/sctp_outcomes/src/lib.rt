@@ -62,6 +62,7 @@
 //! | the count that is reported of a reset of the peer's (`WasReset`) was noted when a request in a packet that arrived was performed at this endpoint, in its turn and naming the stream, and is how many messages had been delivered then, less those taken since; it is never more than wait | `reported_counts_were_so`, clauses `counts`, `waiting` |
 //! | in every run that meets the three assumptions, on each stream in each direction, the messages that an application took, and those that wait, are matched with messages that its peer's user sent, each with one of its own and ordered ones in order, so that each reset of the stream that was reported to it (`WasReset`) parts them: what is delivered after that reset was sent after the peer's user had reset the stream; what was delivered before it was sent before, if some of that waited, or if the application takes messages only with all resets reported (`TakesToldOnly`) | `resets_part_messages`: `ResetsPartMessages` |
 //! | in every run that meets the three assumptions, no more resets of a stream are reported to an application than its peer's user asked for, by calls that were accepted; and there is such a run in which a stream is reset twice, with nothing sent between, and both resets are reported | `resets_are_reported_once`, clauses `once`, `twice` |
+//! | in every run that meets the three assumptions, in which an application has asked for the peer's resets of a stream whenever a packet arrives (`HearsToldOnly`), of those that its peer's user began all were reported but one that is to be reported, and one that isn't done; if it takes messages only with all resets reported, too, wherever a reset of its peer's user lies between two messages that are delivered, one is reported, or is to be, whose place does; and there is such a run in which one does | `resets_are_all_reported`, clauses `counts`, `places`, `between` |
 //!
 //! ## What is noted of an endpoint
 //!
@@ -142,7 +143,7 @@ pub use kept::{
     what_comes_keeps_logs,
 };
 pub use outcomes::{every_event_has_an_outcome, every_event_has_one_outcome};
-pub use parting::{resets_are_reported_once, resets_part_messages};
+pub use parting::{resets_are_all_reported, resets_are_reported_once, resets_part_messages};
 pub use receiver_steps::{
     forwards_are_computed, pieces_are_computed, runs_are_computed,
     the_cumulative_index_is_computed, what_is_due_is_computed, wholes_are_computed,

@@ -2,6 +2,7 @@
 //!
 //! No function here does anything: it carries a law as its contract.
 
+ghost use Rattle.sctp_outcomes.specs.AllReported.{AResetLiesBetween, ResetsAreAllReported, ResetsHavePlaces};
 ghost use Rattle.sctp_outcomes.specs.Parted.{ResetsAreReportedOnce, ResetsPartMessages, TwoResetsAreReported};
 
 // law
@@ -20,4 +21,15 @@ pub fn resets_part_messages()
 pub fn resets_are_reported_once()
     ensures once { ResetsAreReportedOnce }
     ensures twice { TwoResetsAreReported }
+{}
+
+// law
+/// And in every run that meets the three assumptions, in which an application asks for the resets of a stream before the next packet arrives, each is reported to it: of those that
+/// its peer's user began all but one that is to be reported, and one that isn't done. If it takes messages, too, with all resets reported, then wherever a reset of its
+/// peer's user lies between two messages that are delivered, one is reported, or is to be, whose place does (RFC 6525, 5.2.2; RFC 8831, 6.7). And there is a run that meets
+/// all this in which a reset lies between two messages, and is reported.
+pub fn resets_are_all_reported()
+    ensures counts { ResetsAreAllReported }
+    ensures places { ResetsHavePlaces }
+    ensures between { AResetLiesBetween }
 {}

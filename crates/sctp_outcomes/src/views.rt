@@ -3,6 +3,8 @@
 ghost use Rattle.sctp_outcomes.specs.Views.{BothSendersAreInOrder, BuffersHold, ReceiversAreAtRest, SendersAreInOrder};
 ghost use Rattle.sctp_outcomes.specs.NeverHeld.{NoneIsHeldForEver, NoPaceUnasked};
 ghost use Rattle.sctp_outcomes.specs.NeverReset.{NoResetUnasked};
+ghost use Rattle.sctp_outcomes.specs.Reserves.{NextIsTaken};
+ghost use Rattle.sctp_outcomes.specs.NeverBeats.{BeatsGoOn, NoBeatUnasked};
 
 /// In every world of every run, also of one that meets no premise, each sender is one that its calls reach, and its plan is orderly, as far as its
 /// endpoint's fragments may hold a byte; if the premises are met, both are (RFC 9260, 6.6 and 6.9; RFC 8260, 2.2).
@@ -38,4 +40,22 @@ pub fn no_end_gets_a_pace_unasked()
 /// type, and makes no request (RFC 6525, 5).
 pub fn no_end_resets_unasked()
     ensures { NoResetUnasked }
+{}
+
+/// In every world of every run, also of one that meets no premise: if the messages that wait for `take`, what is kept up to the cumulative TSN, and the next
+/// chunk expected have no more bytes than the reserve together, that chunk isn't refused for space (RFC 9260, 6.2).
+pub fn the_next_chunk_is_never_refused()
+    ensures { NextIsTaken }
+{}
+
+/// In every world of every run, also of one that meets no premise, an endpoint that is set up without HEARTBEATs has made none, none is due, and their timer rests
+/// (RFC 9260, 8.3).
+pub fn no_end_beats_unasked()
+    ensures { NoBeatUnasked }
+{}
+
+/// In every world of every run, also of one that meets no premise, the timer of HEARTBEATs runs at an endpoint that is set up for them, in each state in which
+/// it may send one: Established, ShutdownPending and ShutdownReceived (RFC 9260, 8.3).
+pub fn heartbeats_go_on()
+    ensures { BeatsGoOn }
 {}

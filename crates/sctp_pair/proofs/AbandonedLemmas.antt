@@ -1,13 +1,13 @@
 -- Which messages a time or a call abandons: those that weren't abandoned before and are now; at a time only those that it may give up.
 use Rattle.std.proofs.Common.{◌≡◌, ℕ, zero, suc, ◌⊎◌, inl, inr, max, Bool, true, false, not, ◌&&◌, List, [], ◌∷◌, ◌++◌, refl, sym, ap, ◌∙◌, map, append_assoc}
-use Rattle.std.specs.Prelude.{if◌then◌else◌, filter, nat_lt, ◌||◌, ◌==◌}
+use Rattle.std.specs.Prelude.{if◌then◌else◌, filter, ◌||◌, ◌==◌}
 use Rattle.std.proofs.lemmas.List.{append-nil}
 use Rattle.std.proofs.lemmas.List.Elements.{filter-append}
 use Rattle.sctp_model.specs.sender.SenderView.{SenderView}
 use Rattle.sctp_model.specs.sender.Words.{count_up}
 use Rattle.sctp_model.specs.sender.Readers.{abandoned, point}
-use Rattle.sctp_model.specs.end.EndView.{TimedOut, Alarm, InitAlarm, CookieAlarm, DataAlarm, ShutdownAlarm, AckAlarm, ResetAlarm, EndView, has_association}
-use Rattle.sctp_model.specs.end.Clock.{is_over_at, repeats_of, with_timer, at_moment, closed, expired_timer, settled}
+use Rattle.sctp_model.specs.end.EndView.{TimedOut, Alarm, InitAlarm, CookieAlarm, DataAlarm, ShutdownAlarm, AckAlarm, ResetAlarm, BeatAlarm, GuardAlarm, EndView, has_association}
+use Rattle.sctp_model.specs.end.Clock.{is_over_at, may_go_on, with_timer, at_moment, closed, expired_timer, settled}
 use Rattle.sctp_model.specs.end.Closing.{rested}
 use Rattle.sctp_model.specs.end.Moments.{after_abandoning, is_data_due, given_up, due_again, rung, ring, rung_all, all_alarms, waited_in, passed, ticked}
 use Rattle.sctp_model.specs.world.World.{if_newly_abandoned, newly_abandoned}
@@ -33,13 +33,15 @@ again_alike v DataAlarm e alike = alike
 again_alike v ShutdownAlarm e alike = alike
 again_alike v AckAlarm e alike = alike
 again_alike v ResetAlarm e alike = λ k. ap (λ (x : SenderView). abandoned x k) (retried_of e.sender).1 ∙ alike k
+again_alike v BeatAlarm e alike = alike
+again_alike v GuardAlarm e alike = alike
 
 rung_alike : (v : SenderView) (b : Bool) (a : Alarm) (e : EndView) → IsGivenAlike v e → IsGivenAlike v (rung b a e)
 rung_alike v false a e alike = alike
-rung_alike v true a e alike = go (nat_lt (e.timers a).repeats (repeats_of a))
+rung_alike v true a e alike = go (may_go_on a e)
   where
-    go : (c : Bool) → IsGivenAlike v (if c then due_again a (with_timer a (expired_timer (e.timers a)) e) else closed TimedOut e)
-    go true = again_alike v a (with_timer a (expired_timer (e.timers a)) e) alike
+    go : (c : Bool) → IsGivenAlike v (if c then due_again a (with_timer a (expired_timer e.configuration.longest_wait (e.timers a)) e) else closed TimedOut e)
+    go true = again_alike v a (with_timer a (expired_timer e.configuration.longest_wait (e.timers a)) e) alike
     go false = alike
 
 all_alike : (v : SenderView) (alarms : List Alarm) (e : EndView) → IsGivenAlike v e → IsGivenAlike v (rung_all alarms e)

@@ -12,7 +12,7 @@ use Rattle.sctp_model.specs.end.EndView.{Draw, Configuration, EndView}
 use Rattle.sctp_model.specs.end.Reports.{item, INVALID_PARAMETER}
 use Rattle.sctp_model.specs.end.PeerFaults.{Replies, packet_to, abort_for}
 use Rattle.sctp_model.specs.end.Opening.{RefusedAck, CookieRead, CookieOpens, CookieLate, Strange, cookie_read, has_no_stream, init_ack}
-use Rattle.sctp_model.specs.end.Acting.{Acts, PieceEmpty, WrongFormat, SackWrong, ShutdownWrong, AckCompletes, WrongKind, IsBad, IsUnknown}
+use Rattle.sctp_model.specs.end.Acting.{Acts, PieceEmpty, WrongFormat, Misnumbered, SackWrong, ShutdownWrong, AckCompletes, WrongKind, IsBad, IsUnknown}
 use Rattle.sctp_model.specs.end.Strays.{Verdict, Dropped, Answer, holds_abort, listens, init_verdict, cookie_verdict, echo_verdict, first_verdict, chunks_verdict, stray_verdict}
 use Rattle.sctp_model.specs.end.Arriving.{AllAct, NoneLeft, Next, Last, EndsAnswered, Stopped, Notes, noted, verdict_of, Arrives, Elsewhere, NotOurs, Stray, CookieBegins, Heard, Receives, ReadAs}
 use Rattle.sctp_model.specs.end.Arriving.{Passes}
@@ -47,8 +47,10 @@ one_chunk c tag y is = record { chunk = y; only = refl; answers = is }
 replies_plain : (e : EndView) (tag : ℕ) (x : ChunkMeaning) (t : EndView) (p : Packet) → Acts e tag x (Replies t p) → IsPlain p
 replies_plain e tag (Data q) t p (PieceEmpty u _ _ _ _) = one_chunk e.configuration u.peer _ (AnAbort false _)
 replies_plain e tag (Data q) t p (WrongFormat u _ _ _ _ _) = one_chunk e.configuration u.peer _ (AnAbort false _)
+replies_plain e tag (Data q) t p (Misnumbered u _ _ _ _ _ _ _ _) = one_chunk e.configuration u.peer _ (AnAbort false _)
 replies_plain e tag (IData q) t p (PieceEmpty u _ _ _ _) = one_chunk e.configuration u.peer _ (AnAbort false _)
 replies_plain e tag (IData q) t p (WrongFormat u _ _ _ _ _) = one_chunk e.configuration u.peer _ (AnAbort false _)
+replies_plain e tag (IData q) t p (Misnumbered u _ _ _ _ _ _ _ _) = one_chunk e.configuration u.peer _ (AnAbort false _)
 replies_plain e tag (Init m) t p h = absurd (cc)
 replies_plain e tag (InitAck m) t p (RefusedAck _ _ _ _ _) = one_chunk e.configuration m.tag _ (AnAbort false _)
 replies_plain e tag (Sack s) t p (SackWrong u _ _ _ _) = one_chunk e.configuration u.peer _ (AnAbort false _)

@@ -8,7 +8,7 @@ use Rattle.sctp_model.specs.sender.Filling.{Wish, chunk_of}
 use Rattle.sctp_model.specs.sender.SentChunks.{forward_chunk_of}
 use Rattle.sctp_model.specs.end.EndView.{EndView, format_of}
 use Rattle.sctp_model.specs.end.Reconfiguring.{asking}
-use Rattle.sctp_model.specs.end.Building.{Slot, EchoSlot, ErrorSlot, open_slots, echoing_slots, Wants, EchoCookie, AckCookie, AckHeartbeat, ReportCauses, Acknowledge, PassOn, AnswerReset, AskReset, SayShutdown, AnswerShutdown, once_built, Puts, NoMore, NotDue, Put, IsFull, fragments, filled_behind, Builds, Sleeps, Waits, Calls, Echoes, EndsFull, Fills}
+use Rattle.sctp_model.specs.end.Building.{Slot, EchoSlot, ErrorSlot, open_slots, echoing_slots, Wants, EchoCookie, AckCookie, AckHeartbeat, Beat, ReportCauses, Acknowledge, PassOn, AnswerReset, AskReset, SayShutdown, AnswerShutdown, once_built, Puts, NoMore, NotDue, Put, IsFull, fragments, filled_behind, Builds, Sleeps, Waits, Calls, Echoes, EndsFull, Fills}
 
 -- a chunk that may stand anywhere
 abbrev IsFree : ChunkMeaning → Type 0
@@ -106,6 +106,7 @@ wants_free : (e : EndView) (s : Slot) (x : ChunkMeaning) → IsOther s → Wants
 wants_free e s x other (EchoCookie t xs is) = absurd other
 wants_free e s x other AckCookie = tt
 wants_free e s x other (AckHeartbeat info is) = tt
+wants_free e s x other Beat = tt
 wants_free e s x other ReportCauses = tt
 wants_free e s x other (Acknowledge t is) = tt
 wants_free e s x other PassOn = forward_free (format_of e) e.configuration.limit e.sender
@@ -131,7 +132,7 @@ puts_echo e zs full t (Put _ _ _ x _ _ _ _ due wants room rest) =
 puts_echo e zs full t (IsFull _ _ _ _ _ due wants room) = tt
 
 no_echo : AreOther open_slots
-no_echo = (tt, (tt, (tt, (tt, (tt, (tt, (tt, (tt, (tt, tt)))))))))
+no_echo = (tt, (tt, (tt, (tt, (tt, (tt, (tt, (tt, (tt, (tt, tt))))))))))
 
 -- ---- fragments
 

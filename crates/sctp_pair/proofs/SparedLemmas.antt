@@ -7,7 +7,7 @@ use Rattle.std.proofs.lemmas.Bool.Decides.{nat_tests}
 use Rattle.sctp_model.specs.wire.Chunk.{ChunkMeaning, Data, IData, Init, InitAck, Sack, Heartbeat, HeartbeatAck, Abort, Shutdown, ShutdownAck, Error, CookieEcho, CookieAck, ShutdownComplete, ForwardTsn, IForwardTsn, Unknown}
 use Rattle.sctp_model.specs.wire.Packet.{Packet}
 use Rattle.sctp_model.specs.wire.Typed.{typed_in}
-use Rattle.sctp_model.specs.sender.SenderView.{SenderView, fresh_sender}
+use Rattle.sctp_model.specs.sender.SenderView.{SendLimits, SenderView, fresh_sender}
 use Rattle.sctp_model.specs.sender.Words.{count_up}
 use Rattle.sctp_model.specs.sender.Entries.{is_of_abandoned, passes_at}
 use Rattle.sctp_model.specs.sender.Abandoning.{is_worn, ticket_at, marking}
@@ -19,9 +19,10 @@ use Rattle.sctp_model.specs.end.EndView.{Aborted, Configuration, Terms, EndView,
 use Rattle.sctp_model.specs.end.Pacing.{Pace}
 use Rattle.sctp_model.specs.end.Clock.{closed, sender_heard}
 use Rattle.sctp_model.specs.end.Closing.{rested}
+use Rattle.sctp_model.specs.end.Beating.{beat_heard}
 use Rattle.sctp_model.specs.end.PeerFaults.{GoesOn, Ends, Replies, Note}
 use Rattle.sctp_model.specs.end.Opening.{AcceptedAck, RefusedAck, EchoedAgain, CookieAcked}
-use Rattle.sctp_model.specs.end.Acting.{Acts, ForwardComes, PieceComes, IsOld, SackStale, ShutdownStale, HeartbeatCounts, SackCounts, ShutdownCounts, Closes, SaysNothing, Crosses, Again, AckCompletes, CompleteCompleted, PieceEmpty, WrongFormat, SackWrong, ShutdownWrong, WrongKind, IsBad, ReconfigComes, IsUnknown}
+use Rattle.sctp_model.specs.end.Acting.{Acts, ForwardComes, PieceComes, IsOld, SackStale, ShutdownStale, HeartbeatCounts, SackCounts, ShutdownCounts, Closes, SaysNothing, Crosses, Again, AckCompletes, CompleteCompleted, PieceEmpty, WrongFormat, Misnumbered, SackWrong, ShutdownWrong, WrongKind, IsBad, ReconfigComes, IsUnknown}
 use Rattle.sctp_model.specs.end.Strays.{Verdict}
 use Rattle.sctp_model.specs.end.Arriving.{Notes, AllAct}
 use Rattle.sctp_model.proofs.sender.HeardLaws.{heard_cases, heard_reached}
@@ -82,10 +83,11 @@ heard_spares : (o : Option Pace) (now : ℕ) (v u : SenderView) → SparesIn v u
 heard_spares o now v u taken marked = heard_cases (SparesIn v) o now v u taken marked
 
 -- a sender that was asked for nothing, after another one
-pub fresh_spares : (v u : SenderView) (fragment initial streams size rwnd : ℕ) (partial : Bool) → v ≡ fresh_sender 0 0 fragment 0 false → u ≡ fresh_sender initial streams size rwnd partial → SparesIn v u
-fresh_spares v u fragment initial streams size rwnd partial before after =
+pub fresh_spares : (v u : SenderView) (fragment initial streams size rwnd : ℕ) (partial : Bool) (unused limits : SendLimits) → v ≡ fresh_sender 0 0 fragment 0 false unused
+    → u ≡ fresh_sender initial streams size rwnd partial limits → SparesIn v u
+fresh_spares v u fragment initial streams size rwnd partial unused limits before after =
     subst (λ (x : SenderView). SparesIn x u) (sym before)
-    (subst (λ (x : SenderView). SparesIn (fresh_sender 0 0 fragment 0 false) x) (sym after) (record { limit = λ k on. absurd (cc); same = λ k. refl }))
+    (subst (λ (x : SenderView). SparesIn (fresh_sender 0 0 fragment 0 false unused) x) (sym after) (record { limit = λ k on. absurd (cc); same = λ k. refl }))
 
 -- ---- an end
 
@@ -114,11 +116,11 @@ rested_spares e = rested_cases (Spares e) e (same_spares e e refl refl refl) (λ
 
 -- one after which the packet goes on
 goes_spares : (e : EndView) (tag : ℕ) (x : ChunkMeaning) (y : Note) (t : EndView) → IsSound e → Acts e tag x (GoesOn y t) → Spares e t
-goes_spares e tag (Data p) y t s (PieceComes _ _ _ _ _ _ _ _ _) = same_spares e t refl refl refl
-goes_spares e tag (IData p) y t s (PieceComes _ _ _ _ _ _ _ _ _) = same_spares e t refl refl refl
+goes_spares e tag (Data p) y t s (PieceComes _ _ _ _ _ _ _ _ _ _) = same_spares e t refl refl refl
+goes_spares e tag (IData p) y t s (PieceComes _ _ _ _ _ _ _ _ _ _) = same_spares e t refl refl refl
 goes_spares e tag (Init m) y t s h = absurd (cc)
 goes_spares e tag (InitAck m) y t s (AcceptedAck d xs is _ _ _) =
-    record { sender = fresh_spares e.sender t.sender _ _ _ _ _ _ (s.bare (ap is_before is)).sender refl; reached = λ r. reached_anew t _ _ _ _ refl; configuration = refl }
+    record { sender = fresh_spares e.sender t.sender _ _ _ _ _ _ _ _ (s.bare (ap is_before is)).sender refl; reached = λ r. reached_anew t _ _ _ _ _ refl; configuration = refl }
 goes_spares e tag (Sack k) y t s (SackStale _ _) = same_spares e t refl refl refl
 goes_spares e tag (Sack k) y t s (SackCounts _ none) = record {
   sender = heard_spares e.pace e.moment e.sender (sack_taken e.sender k) (acknowledged_spares e.sender _ _ _ _ (forward e.sender.cum _)) (λ test. acknowledged_spares e.sender _ _ _ _ (forward e.sender.cum _));
@@ -126,7 +128,7 @@ goes_spares e tag (Sack k) y t s (SackCounts _ none) = record {
   configuration = refl;
 }
 goes_spares e tag (Heartbeat i) y t s (HeartbeatCounts _) = same_spares e t refl refl refl
-goes_spares e tag (HeartbeatAck i) y t s h = let q : t ≡ e = cc in subst (Spares e) (sym q) (same_spares e e refl refl refl)
+goes_spares e tag (HeartbeatAck i) y t s h = let q : t ≡ beat_heard e i = cc in subst (Spares e) (sym q) (same_spares e (beat_heard e i) refl refl refl)
 goes_spares e tag (Abort b xs) y t s h = absurd (cc)
 goes_spares e tag (Shutdown n) y t s (ShutdownStale _ _ _ _ _) = same_spares e t refl refl refl
 goes_spares e tag (Shutdown n) y t s (ShutdownCounts _ _ _ _ none) = record {
@@ -178,8 +180,10 @@ ends_spares e tag (Unknown n f v) t (IsUnknown _ _ h) = let u = unknown_ends e t
 replies_spares : (e : EndView) (tag : ℕ) (x : ChunkMeaning) (t : EndView) (p : Packet) → Acts e tag x (Replies t p) → Spares e t
 replies_spares e tag (Data q) t p (PieceEmpty _ _ _ _ _) = same_spares e t refl refl refl
 replies_spares e tag (Data q) t p (WrongFormat _ _ _ _ _ _) = same_spares e t refl refl refl
+replies_spares e tag (Data q) t p (Misnumbered _ _ _ _ _ _ _ _ _) = same_spares e t refl refl refl
 replies_spares e tag (IData q) t p (PieceEmpty _ _ _ _ _) = same_spares e t refl refl refl
 replies_spares e tag (IData q) t p (WrongFormat _ _ _ _ _ _) = same_spares e t refl refl refl
+replies_spares e tag (IData q) t p (Misnumbered _ _ _ _ _ _ _ _ _) = same_spares e t refl refl refl
 replies_spares e tag (Init m) t p h = absurd (cc)
 replies_spares e tag (InitAck m) t p (RefusedAck _ _ _ _ _) = same_spares e t refl refl refl
 replies_spares e tag (Sack k) t p (SackWrong _ _ _ _ _) = same_spares e t refl refl refl

@@ -97,7 +97,7 @@ arrives_alone e d p t v h (CookieBegins b u n _ _ _ _ opens acts gap _) =
     let before = opens_before e p.tag p.chunks b opens in
     let began = begins_keeps e (begun b e) refl refl refl refl refl before h.sound in
     let new : Spares e (begun b e) =
-    record { sender = fresh_spares e.sender (begun b e).sender _ _ _ _ _ _ (h.sound.bare before).sender refl; reached = λ r. reached_anew (begun b e) _ _ _ _ refl; configuration = refl } in
+    record { sender = fresh_spares e.sender (begun b e).sender _ _ _ _ _ _ _ _ (h.sound.bare before).sender refl; reached = λ r. reached_anew (begun b e) _ _ _ _ _ refl; configuration = refl } in
     wears_alike e u (packet_ended (urged gap n) u) (ended_alike (urged gap n) u) (wears_none e u (spares_on e (begun b e) u new (acts_spare p.tag (begun b e) _ _ u n v began.sound acts)))
 arrives_alone e d p t v h (Heard u n _ _ _ _ acts gap _) =
     let x = wearing (missed_below e.pace) u in

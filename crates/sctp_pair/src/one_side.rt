@@ -134,6 +134,8 @@ pub(crate) fn take_at(alloc: Global, side: &mut OneSide, stream: u16) -> Result<
     // law: the endpoint is sound
     side.end.sound();
     let Some(_) = side.end.waiting(stream, 0) else {
+        // By the clause of `limit` its options are plain, so that to take nothing changes nothing.
+        let _limit = side.end.config().limit();
         return Ok(Outcome::Empty);
     };
     make_room_at(alloc, &mut side.taken, stream)?;

@@ -1,6 +1,6 @@
 -- The answer to a data chunk, row by row.
 use Rattle.std.proofs.Common.{◌≡◌, ℕ, suc, ◌+◌, ◌-◌, ◌<◌, ◌≤◌, Bool, true, false, nat_lt, nat_le, [], ◌∷◌, length, Option, Some, None, inl, inr, refl, sym, ◌∙◌, ap, subst, arith}
-use Rattle.std.specs.Prelude.{◌&&◌, ◌||◌, not}
+use Rattle.std.specs.Prelude.{◌&&◌, ◌||◌, not, ◌==◌, if◌then◌else◌}
 use Rattle.std.proofs.lemmas.Bool.{cases_Bool}
 use Rattle.std.proofs.lemmas.Bool.Decides.{nat_tests}
 use Rattle.std.proofs.lemmas.Grind.{common_steps}
@@ -13,7 +13,7 @@ use Rattle.sctp_model.specs.receiver.ReceiverView.{ReceiverView, held_bytes}
 use Rattle.sctp_model.specs.receiver.Rows.{first_of}
 use Rattle.sctp_model.specs.receiver.Top.{top}
 use Rattle.sctp_model.specs.receiver.Reading.{index_at, is_behind, is_ahead, lane_of, is_late, lowest_in, number_in, piece_at}
-use Rattle.sctp_model.specs.receiver.PieceTaken.{PieceAnswer, Duplicate, Ahead, NoSuchStream, Passed, NoRoom, Kept, is_repeated, is_passed, is_too_much}
+use Rattle.sctp_model.specs.receiver.PieceTaken.{PieceAnswer, Duplicate, Ahead, NoSuchStream, Passed, NoRoom, Kept, is_repeated, is_passed, is_too_much, left_free}
 use Rattle.sctp_recv.specs.Runs.{in_runs}
 use Rattle.sctp_recv.specs.SeenKept.{is_reached, AreWithin}
 use Rattle.sctp_chains.specs.Cells.{counted}
@@ -51,11 +51,21 @@ pub near_reads : (f : Format) (c d a b wire : ℕ) → (f ≡ Interleaved → c 
 near_reads Plain c d a b wire base same = refl
 near_reads Interleaved c d a b wire base same = (λ i. number_read Interleaved Unordered (base refl i) wire (same refl i))
 
+-- ---- the space that a chunk has to leave
+
+-- none, if nothing is reserved
+nothing_left : (v : ReceiverView) (c i : ℕ) → v.reserve ≡ 0 → left_free v c i ≡ 0
+nothing_left v c i none = by_case (i == suc c)
+  where
+    by_case : (b : Bool) → (if b then 0 else v.reserve) ≡ 0
+    by_case true = refl
+    by_case false = none
+
 -- ---- a chunk that comes to a receiver
 
 module _ (f : Format) (k : ReceiverKept) (v : ReceiverView) (p : PieceMeaning) (w : KeepsView f k v) (within : AreWithin (k.seen.cumulative + WINDOW) k.seen.runs) where
   reads : answer_at f k v p ≡ table (is_behind v k.seen.cumulative p.tsn) (v.seen (piece_at f v k.seen.cumulative p).index) (is_ahead v k.seen.cumulative p.tsn)
-      (nat_le v.streams p.stream) (is_passed f v (piece_at f v k.seen.cumulative p)) (is_too_much v p)
+      (nat_le v.streams p.stream) (is_passed f v (piece_at f v k.seen.cumulative p)) (is_too_much f v k.seen.cumulative p)
   unfolding table
   reads = refl
 
@@ -120,8 +130,12 @@ module _ (f : Format) (k : ReceiverKept) (v : ReceiverView) (p : PieceMeaning) (
         pub row_passed : is_passed f v (piece_at f v k.seen.cumulative p) ≡ true → answer_at f k v p ≡ Passed
         row_passed e = reads ∙ table_passed _ _ _ _ _ _ behind_not (seen_is false new) ahead_not there e
 
-        much_is : (b : Bool) → nat_lt k.buffer (k.held + length p.bytes) ≡ b → is_too_much v p ≡ b
-        much_is b e = ap (λ (n : ℕ). nat_lt n (held_bytes v + length p.bytes)) w.buffer ∙ ap (λ (n : ℕ). nat_lt k.buffer (n + length p.bytes)) (sym w.held) ∙ e
+        much_is : (b : Bool) → nat_lt k.buffer (k.held + length p.bytes) ≡ b → is_too_much f v k.seen.cumulative p ≡ b
+        much_is b e =
+            let free = nothing_left v k.seen.cumulative (piece_at f v k.seen.cumulative p).index w.reserve in
+            let all : held_bytes v + length p.bytes + left_free v k.seen.cumulative (piece_at f v k.seen.cumulative p).index ≡ held_bytes v + length p.bytes = omega (arith, free) in
+            ap (λ (n : ℕ). nat_lt v.buffer n) all
+            ∙ ap (λ (n : ℕ). nat_lt n (held_bytes v + length p.bytes)) w.buffer ∙ ap (λ (n : ℕ). nat_lt k.buffer (n + length p.bytes)) (sym w.held) ∙ e
 
         pub row_room : is_passed f v (piece_at f v k.seen.cumulative p) ≡ false → k.buffer < k.held + length p.bytes → answer_at f k v p ≡ NoRoom
         row_room e large = reads ∙ table_room _ _ _ _ _ _ behind_not (seen_is false new) ahead_not there e (much_is true (grind (arith, nat_tests)))

@@ -53,11 +53,11 @@ lowest_near f q c d a b lowest xs base same = ap (λ (n : ℕ). max lowest n) (s
 
 -- ---- what handing over on all streams leaves
 
-pub gives_rest : (f : Format) (n : ℕ) (r t : ReceiverView) → GivesAll f n r t → (t.jump ≡ r.jump) × (t.duplicates ≡ r.duplicates)
-gives_rest f zero r t is = (ap (λ (v : ReceiverView). v.jump) is, ap (λ (v : ReceiverView). v.duplicates) is)
+pub gives_rest : (f : Format) (n : ℕ) (r t : ReceiverView) → GivesAll f n r t → (t.jump ≡ r.jump) × (t.duplicates ≡ r.duplicates) × (t.reserve ≡ r.reserve)
+gives_rest f zero r t is = (ap (λ (v : ReceiverView). v.jump) is, ap (λ (v : ReceiverView). v.duplicates) is, ap (λ (v : ReceiverView). v.reserve) is)
 gives_rest f (suc n) r t (mid, before, (ms, m, due, is)) =
     let b = gives_rest f n r mid before in
-    (ap (λ (v : ReceiverView). v.jump) is ∙ b.0, ap (λ (v : ReceiverView). v.duplicates) is ∙ b.1)
+    (ap (λ (v : ReceiverView). v.jump) is ∙ b.0, ap (λ (v : ReceiverView). v.duplicates) is ∙ b.1, ap (λ (v : ReceiverView). v.reserve) is ∙ b.2)
 
 pub gives_past : (f : Format) (n : ℕ) (r t : ReceiverView) → GivesAll f n r t → (q : ℕ) → n ≤ q → t.waiting q ≡ r.waiting q
 gives_past f zero r t is q high = ap (λ (v : ReceiverView). v.waiting q) is
@@ -241,6 +241,7 @@ module _ (f : Format) (k : ReceiverKept) (v : ReceiverView) (x : ForwardMeaning)
         small = h.small;
         initial = served.giving.initial ∙ h.initial;
         buffer = served.giving.buffer ∙ h.buffer;
+        reserve = (gives_rest f (length streams) left t gives).2 ∙ h.reserve;
       }
         where
           stands : SeenStands seen t.seen t.jump

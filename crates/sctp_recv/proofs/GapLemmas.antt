@@ -49,14 +49,14 @@ no_first [] b there none = there
 no_first (x ∷ bs) b there none = let some = ap length none in absurd (omega (arith, some))
 
 -- where there is a run a SACK has a block
-told_first : (k : SeenKept) (v : ReceiverView) (t : SackMeaning) (r : SeenRun) (rs : List SeenRun) → SeenStands k v.seen v.jump → k.runs ≡ r ∷ rs → IsSack v t → t.blocks ≡ [] → ⊥
+told_first : (k : SeenKept) (v : ReceiverView) (t : SackMeaning) (r : SeenRun) (rs : List SeenRun) → SeenStands k v.seen v.jump → k.runs ≡ r ∷ rs → IsSack BLOCK_LIMIT v t → t.blocks ≡ [] → ⊥
 told_first k v t r rs s first told none =
     let ours = rw first at (all_runs v k.cumulative k.runs s.runs s.above) in
     let one = cumulative_only v k.cumulative told.c (cumulative_is k v s) told.cumulative in
     let there = told.all.all (block_of_run k.cumulative r) (rw (← one) (ours.runs (block_of_run k.cumulative r) (inl refl))) in
     no_first told.runs (block_of_run k.cumulative r) there (ap (λ (x : SackMeaning). x.blocks) (sym told.is) ∙ none)
 
-pub told_run : (k : SeenKept) (v : ReceiverView) (t : SackMeaning) → SeenStands k v.seen v.jump → 0 < length k.runs → IsSack v t → t.blocks ≡ [] → ⊥
+pub told_run : (k : SeenKept) (v : ReceiverView) (t : SackMeaning) → SeenStands k v.seen v.jump → 0 < length k.runs → IsSack BLOCK_LIMIT v t → t.blocks ≡ [] → ⊥
 told_run k v t s some told none = by_runs k.runs refl
   where
     by_runs : (rs : List SeenRun) → k.runs ≡ rs → ⊥

@@ -97,6 +97,7 @@ module _ (f : Format) (k : ReceiverKept) (v : ReceiverView) (x : Piece) (seen : 
     small = h.keeps.small;
     initial = h.keeps.initial;
     buffer = h.keeps.buffer;
+    reserve = h.keeps.reserve;
   }
     where
       held_now : held ≡ size_of_pieces (filter test (x ∷ v.kept)) + size_of_waiting (at v.waiting s (v.waiting s ++ ms)) v.streams

@@ -31,7 +31,7 @@ cumulative_is k v s = record {
 -- ---- a fresh receiver
 
 pub keeps_fresh : (f : Format) (seen : SeenKept) (ss : List StreamKept) (initial n buffer : ℕ) → SeenStands seen (λ i. false) 0 → ss ≡ replicate n FRESH → n < 2 ^ 16 → buffer < 2 ^ 32 →
-    KeepsView f (record { seen = seen; streams = ss; duplicates = []; resets = None; held = 0; initial = initial; buffer = buffer }) (fresh_receiver initial n buffer)
+    KeepsView f (record { seen = seen; streams = ss; duplicates = []; resets = None; held = 0; initial = initial; buffer = buffer }) (fresh_receiver initial n buffer 0)
 keeps_fresh f seen ss initial n buffer s e few fits = record {
   seen = s;
   counts = λ i came. absurd (let never : false ≡ true = came in cc);
@@ -52,6 +52,7 @@ keeps_fresh f seen ss initial n buffer s e few fits = record {
   small = fits;
   initial = refl;
   buffer = refl;
+  reserve = refl;
 }
 
 -- ---- a message taken
@@ -104,6 +105,7 @@ keeps_taken f k v s held h rest x resets w l at_s left less has = record {
   small = w.small;
   initial = w.initial;
   buffer = w.buffer;
+  reserve = w.reserve;
 }
   where
     waits_here : v.waiting s ≡ h ∷ rest

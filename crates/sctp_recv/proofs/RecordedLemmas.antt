@@ -54,6 +54,7 @@ keeps_recorded f k v x seen w records new near small = record {
   small = w.small;
   initial = w.initial;
   buffer = w.buffer;
+  reserve = w.reserve;
 }
 
 pub keeps_new : (f : Format) (k : ReceiverKept) (v : ReceiverView) (p : PieceMeaning) (i : ℕ) (seen : SeenKept) → KeepsView f k v → IsNewIndex f k v p i → RecordsNew k.seen seen i →
@@ -90,6 +91,7 @@ keeps_duplicates f k v ds es w same = record {
   small = w.small;
   initial = w.initial;
   buffer = w.buffer;
+  reserve = w.reserve;
 }
 
 pub keeps_noted : (f : Format) (k : ReceiverKept) (v : ReceiverView) (wire : ℕ) (ds : List ℕ) → KeepsView f k v → ds ≡ take DUPLICATE_LIMIT (k.duplicates ++ wire ∷ []) → KeepsView f (record k { duplicates = ds }) (noted v wire)

@@ -143,4 +143,5 @@ keeps_resets f k v o x w h = record {
   small = w.small;
   initial = w.initial;
   buffer = w.buffer;
+  reserve = w.reserve;
 }

@@ -275,6 +275,7 @@ module _ (f : Format) (k : ReceiverKept) (v : ReceiverView) (x : Piece) (seen : 
             small = h.keeps.small;
             initial = h.keeps.initial;
             buffer = h.keeps.buffer;
+            reserve = h.keeps.reserve;
           }
 
     -- by its kind

@@ -1,5 +1,6 @@
 -- What a SACK's own lists say, and a SACK without lists.
 use Rattle.std.specs.Prelude.{◌≡◌, []}
+use Rattle.sctp_model.specs.numbers.Limits.{BLOCK_LIMIT}
 use Rattle.sctp_model.specs.wire.Chunk.{SackMeaning}
 use Rattle.sctp_wire.specs.Items.{blocks_in, words_in}
 use Rattle.sctp_model.specs.receiver.ReceiverView.{ReceiverView}
@@ -22,4 +23,4 @@ plain_meaning s = record { cumulative = s.cumulative; rwnd = s.rwnd; blocks = []
 
 -- the SACK of the view has gap ack blocks or duplicates
 abbrev pub TellsLists : ReceiverView → Type 0
-TellsLists r = (s : SackMeaning) → IsSack r s → s.blocks ≡ [] → s.duplicates ≡ [] → ⊥
+TellsLists r = (s : SackMeaning) → IsSack BLOCK_LIMIT r s → s.blocks ≡ [] → s.duplicates ≡ [] → ⊥

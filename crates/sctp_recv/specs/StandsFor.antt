@@ -19,8 +19,8 @@ use Rattle.sctp_recv.specs.declared.places.Lows.{Lows}
 use Rattle.sctp_recv.specs.declared.receiver.Receiver.{Receiver}
 
 -- What is kept says the view, up to what the receiver has let go: the indexes at or below the cumulative one, the messages taken, and the
--- skipped ordered numbers, of which none is past the next; of unordered ones the largest, where they are numbered; of streams that were reset, how many of the messages that wait were delivered before. The chunks kept are apart, each was recorded, and all that is held fits the buffer;
--- a stream's number has 16 bits.
+-- skipped ordered numbers, of which none is past the next; of unordered ones the largest, where they are numbered; of streams that were reset, how many of the messages that wait were delivered before. The chunks kept are apart, each was recorded, and all that is held fits the buffer,
+-- of which nothing is reserved; a stream's number has 16 bits.
 pub record KeepsView (f : Format) (k : ReceiverKept) (v : ReceiverView) : Type 0 where
   pub seen : SeenStands k.seen v.seen v.jump
   pub counts : (i : ℕ) → v.seen i ≡ true → suc i < COUNTS
@@ -41,6 +41,7 @@ pub record KeepsView (f : Format) (k : ReceiverKept) (v : ReceiverView) : Type 0
   pub small : k.buffer < 2 ^ 32
   pub initial : v.initial ≡ k.initial
   pub buffer : v.buffer ≡ k.buffer
+  pub reserve : v.reserve ≡ 0
 
 -- the receiver keeps what the view says
 abbrev pub Stands : {F : Type 0} → Format → Receiver F → ReceiverView → Type 0

@@ -69,7 +69,7 @@ impl<F: Framing> Receiver<F> {
         streams: u16,
         buffer: u32,
     ) -> Result<Receiver<F>, NoMemory>
-        ensures { IfOk result (λ r. StandsFor F.format r (fresh_receiver initial_tsn streams buffer)) }
+        ensures { IfOk result (λ r. StandsFor F.format r (fresh_receiver initial_tsn streams buffer 0)) }
     {
         let lows = Lows::new(alloc, noted_streams::<F>(streams))?;
         let ready = Ready::new(alloc, streams)?;

@@ -1,6 +1,7 @@
 //! The SACK of a receiver: with lists of its own, or, if it has none, without (RFC 9260, 3.3.4 and 6.2).
 
 ghost use Rattle.std.specs.Prelude.{◌≡◌, ◌^◌, ◌<◌, ◌-◌, IfOk, MatchOption};
+ghost use Rattle.sctp_model.specs.numbers.Limits.{BLOCK_LIMIT};
 ghost use Rattle.sctp_model.specs.numbers.Serial.{tsn};
 ghost use Rattle.sctp_model.specs.receiver.ReceiverView.{ReceiverView};
 ghost use Rattle.sctp_model.specs.receiver.SackMade.{IsSack};
@@ -22,7 +23,7 @@ impl<F: Framing> Receiver<F> {
     /// # Errors
     /// Allocation failed.
     pub fn sack(&self) -> Result<SackLists, NoMemory>
-        ensures sack { (v : ReceiverView) → StandsFor F.format self.now v → IfOk result (λ s. IsSack v (lists_meaning s)) }
+        ensures sack { (v : ReceiverView) → StandsFor F.format self.now v → IfOk result (λ s. IsSack BLOCK_LIMIT v (lists_meaning s)) }
         ensures fits { IfOk result (λ s. Fits (Sack (lists_meaning s))) }
     {
         let mut blocks = Vec::new(self.alloc);
@@ -41,7 +42,7 @@ impl<F: Framing> Receiver<F> {
     /// The SACK to be sent now, if it has neither gap ack blocks nor duplicates: None if and only if it has. Nothing changes, and nothing is allocated.
     #[inline(always)]
     pub fn plain_sack(&self) -> Option<PlainSack>
-        ensures { (v : ReceiverView) → StandsFor F.format self.now v → MatchOption result (TellsLists v) (λ s. IsSack v (plain_meaning s)) }
+        ensures { (v : ReceiverView) → StandsFor F.format self.now v → MatchOption result (TellsLists v) (λ s. IsSack BLOCK_LIMIT v (plain_meaning s)) }
     {
         if self.seen.has_runs() || self.duplicates.has_some() {
             return None;

@@ -23,6 +23,7 @@ pub record AreAgreed (x y : Terms) : Type 0 where
   pub interleave : y.interleave ≡ x.interleave
   pub partial : y.partial ≡ x.partial
   pub reset : y.reset ≡ x.reset
+  pub zero_checksum : y.zero_checksum ≡ x.zero_checksum
   pub some_streams : (0 < x.outbound) × (0 < x.inbound)
 
 -- If both endpoints go by tags, each puts on its packets the tag that the other looks for (RFC 9260, 8.5).

@@ -1,5 +1,5 @@
 -- A request for the reset of a stream parts the messages of the stream: those that `send` accepted before it from those accepted later (RFC 6525, 5.1 and 5.2).
-use Rattle.std.specs.Prelude.{◌≡◌, ℕ, ◌<◌, ◌≤◌, ◌⊎◌, true, List, ◌∷◌, ◌++◌, length, Option, Some}
+use Rattle.std.specs.Prelude.{◌≡◌, ℕ, ◌<◌, true, List, ◌++◌, Option, Some}
 use Rattle.sctp_model.specs.numbers.Lists.{Has}
 use Rattle.sctp_model.specs.messages.Plan.{Message, Part, entry_at, message_at}
 use Rattle.sctp_model.specs.sender.Outgoing.{Request, lists}
@@ -8,7 +8,7 @@ use Rattle.sctp_model.specs.receiver.ReceiverView.{Handed, ReceiverView, handed}
 use Rattle.sctp_model.specs.end.Configured.{IsConfiguration}
 use Rattle.sctp_model.specs.world.World.{Side, other, World, end_of, Setup, configuration_of, start}
 use Rattle.sctp_model.specs.world.Events.{Event, Outcome}
-use Rattle.sctp_model.specs.world.Steps.{Step, PassesThrough, last_of}
+use Rattle.sctp_model.specs.world.Steps.{PassesThrough, last_of}
 use Rattle.sctp_model.specs.world.Aged.{Aged}
 use Rattle.sctp_model.specs.world.Premises.{FreshAndUnforged}
 

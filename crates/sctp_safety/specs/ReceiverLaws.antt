@@ -117,7 +117,7 @@ pub record IsSackPut (w : Way) (s : SackMeaning) : Type 0 where
 
 -- A SACK that a receiver makes may be put between the endpoints (RFC 9260, 6.2).
 abbrev pub SackMadeIsMoves : Type 0
-SackMadeIsMoves = (w : Way) (s : SackMeaning) → IsSack w.receiver s → IsSackPut w s
+SackMadeIsMoves = (w : Way) (most : ℕ) (s : SackMeaning) → IsSack most w.receiver s → IsSackPut w s
 
 -- The user takes the first message that waits, or finds none.
 abbrev pub TakeIsMoves : Type 0

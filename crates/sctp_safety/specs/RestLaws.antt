@@ -13,7 +13,7 @@ use Rattle.sctp_model.specs.receiver.Laws.{IsAtRest, FitsBuffer}
 
 -- a new receiver is at rest
 abbrev pub NewIsAtRest : Type 0
-NewIsAtRest = (f : Format) (initial streams buffer : ℕ) → IsAtRest f (fresh_receiver initial streams buffer)
+NewIsAtRest = (f : Format) (initial streams buffer reserve : ℕ) → IsAtRest f (fresh_receiver initial streams buffer reserve)
 
 -- a chunk leaves it, whatever it says and whatever is answered
 abbrev pub PieceLeavesRest : Type 0
@@ -36,7 +36,7 @@ SentLeavesRest = (f : Format) (r : ReceiverView) → IsAtRest f r → IsAtRest f
 
 -- a new receiver holds nothing
 abbrev pub NewFits : Type 0
-NewFits = (initial streams buffer : ℕ) → FitsBuffer (fresh_receiver initial streams buffer)
+NewFits = (initial streams buffer reserve : ℕ) → FitsBuffer (fresh_receiver initial streams buffer reserve)
 
 -- a chunk is taken if it fits, and delivery needs no space
 abbrev pub PieceFits : Type 0

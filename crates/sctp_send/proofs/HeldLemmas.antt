@@ -40,5 +40,6 @@ keeps_with f s v o c k built room = record {
   resets = k.resets;
   before = k.before;
   counted = k.counted;
+  limits = k.limits;
   reached = k.reached;
 }

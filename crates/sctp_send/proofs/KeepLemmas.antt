@@ -170,6 +170,7 @@ keeps_sacked f s v x n b rs k before stays p none runs =
       resets = k.resets;
       before = before ∙ ap (last_that v.sent) (sym p.index);
       counted = k.counted;
+      limits = k.limits;
       reached = Covers v x k.reached none;
     })
 
@@ -212,5 +213,6 @@ keeps_shut f s v wire n b k before p none =
       resets = k.resets;
       before = before ∙ ap (last_that v.sent) (sym p.index);
       counted = k.counted;
+      limits = k.limits;
       reached = Closes v wire k.reached none;
     })

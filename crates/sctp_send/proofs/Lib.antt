@@ -13,3 +13,4 @@ pub mod TicketLemmas
 pub mod DueKept
 pub mod OverKept
 pub mod RoomKept
+pub mod MoreLemmas

@@ -39,6 +39,7 @@ keeps_over f s v n last k given low queue rests items = record {
   resets = k.resets;
   before = k.before;
   counted = k.counted;
+  limits = k.limits;
   reached = k.reached;
 }
 

@@ -9,11 +9,11 @@ use Rattle.std.proofs.lemmas.Bool.Decides.{nat_tests}
 use Rattle.sctp_model.specs.numbers.Limits.{LONGEST_MESSAGE, QUEUE_LIMIT, TICKET_LIMIT, TSN_LIMIT, LAST_MOMENT}
 use Rattle.sctp_model.specs.messages.Format.{Format, Lane}
 use Rattle.sctp_model.specs.messages.Plan.{Entry, Part, End}
-use Rattle.sctp_model.specs.sender.SenderView.{Queued, SenderView}
+use Rattle.sctp_model.specs.sender.SenderView.{Queued, SendLimits, SenderView}
 use Rattle.sctp_model.specs.sender.Entries.{continued, fragments_from, one_if_some, sum_below, in_part}
-use Rattle.sctp_model.specs.sender.Queueing.{cut, owed_for, owed_by_queue, owed_by_parts, promised, refusal, queued, Spent}
+use Rattle.sctp_model.specs.sender.Queueing.{cut, owed_for, owed_by_queue, owed_by_parts, promised, queued_bytes, is_over, refusal, queued, Spent}
 use Rattle.sctp_model.specs.sender.Outgoing.{is_sending}
-use Rattle.sctp_model.specs.sender.Words.{when, first_there}
+use Rattle.sctp_model.specs.sender.Words.{when, first_there, some_passes}
 use Rattle.sctp_model.specs.sender.Abandoning.{waits, name_of}
 use Rattle.sctp_model.specs.sender.Reached.{Queues}
 use Rattle.sctp_model.proofs.sender.PlanLaws.{continued_is}
@@ -159,6 +159,7 @@ keeps_queued f s v lane payload ticket bytes until limit capacity q ns k free gi
       resets = k.resets;
       before = k.before;
       counted = k.counted ∙ sym (push_open s.fates StillQueued refl);
+      limits = k.limits;
       reached = Queues v lane payload bytes until limit k.reached free;
     }
   where
@@ -206,6 +207,14 @@ cut_short size bytes p = rw (length-cut size bytes) (ceil_short (length bytes) s
 owed_small : (n : ℕ) → n ≤ 65536 → owed_for n ≤ 65537
 owed_small n le = omega arith
 
+-- the limit of a message's bytes
+longest_is : (f : Format) (s : Kept) (v : SenderView) → Keeps f s v → v.limits.message ≡ LONGEST_MESSAGE
+longest_is f s v k = ap (λ (l : SendLimits). l.message) k.limits
+
+-- the bytes of the messages that wait have no limit
+never_over : (f : Format) (s : Kept) (v : SenderView) (bytes : List ℕ) → Keeps f s v → is_over v bytes ≡ false
+never_over f s v bytes k = ap (λ (l : SendLimits). some_passes (λ (most : ℕ). nat_lt most (queued_bytes v.queue + length bytes)) l.queue) k.limits
+
 -- the first five reasons don't hold
 pub record IsFit (s : Kept) (n : ℕ) (bytes : List ℕ) : Type 0 where
   pub stream : n < s.streams
@@ -226,8 +235,11 @@ only_spent f s v stream bytes k fit =
     let four = fit.waits in
     let a : nat_le v.streams stream ≡ false = grind (arith, nat_tests) in
     let b : (length bytes == 0) ≡ false = grind (arith, nat_tests) in
-    let c : nat_lt LONGEST_MESSAGE (length bytes) ≡ false = grind (arith, nat_tests) in
-    let d : nat_le QUEUE_LIMIT (length v.queue) ≡ false = grind (arith, nat_tests) in
+    let most = longest_is f s v k in
+    let c : nat_lt v.limits.message (length bytes) ≡ false = grind (arith, nat_tests) in
+    let d : (nat_le QUEUE_LIMIT (length v.queue) || is_over v bytes) ≡ false =
+    let full : nat_le QUEUE_LIMIT (length v.queue) ≡ false = grind (arith, nat_tests) in
+    rw (full, never_over f s v bytes k) refl in
     let e = sends_by f s v stream k (omega arith) ∙ fit.sends in
     rw (a, b, c, d, e) (by_test (nat_le TICKET_LIMIT v.tickets || nat_lt TSN_LIMIT (promised v + owed_for (length (cut v.fragment bytes)))))
   where

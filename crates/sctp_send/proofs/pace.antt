@@ -4,7 +4,12 @@ pub mod BlockLemmas
 pub mod RepeatLemmas
 pub mod PaceViews
 pub mod LastLemmas
+pub mod ChunkLemmas
 pub mod FlyingLemmas
 pub mod WeighLemmas
 pub mod AfterLemmas
 pub mod SentLemmas
+pub mod ToldLemmas
+pub mod AgainLemmas
+pub mod OffsetLemmas
+pub mod BackLemmas

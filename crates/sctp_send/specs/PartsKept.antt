@@ -7,9 +7,10 @@ use Rattle.sctp_send.specs.declared.kept.message.Fate.{Fate}
 use Rattle.sctp_send.specs.declared.kept.entry.Entry.{Entry as EntryFields}
 use Rattle.sctp_send.specs.declared.kept.track.Track.{Track}
 
--- the entries above CUM, of fragments with at most so many bytes, and how many there is room for
+-- the entries above CUM, of fragments with at most so many bytes, whose chunks have so many before them, and how many there is room for
 pub record OutstandingKept : Type 0 where
   pub size : ℕ
+  pub header : ℕ
   pub items : List EntryFields
   pub capacity : ℕ
 
@@ -49,7 +50,8 @@ changed_at f (suc n) (x ∷ xs) = x ∷ changed_at f n xs
 abbrev pub changed : (EntryFields → EntryFields) → (at : ℕ) → OutstandingKept → OutstandingKept
 changed f at w = record w { items = changed_at f at w.items }
 
--- fragments are as long as before, and there is as much room
+-- fragments and the bytes before them are as long as before, and there is as much room
 pub record IsSameRoom (old new : OutstandingKept) : Type 0 where
   pub size : new.size ≡ old.size
+  pub header : new.header ≡ old.header
   pub capacity : new.capacity ≡ old.capacity

@@ -2,7 +2,8 @@
 use Rattle.std.specs.Prelude.{◌≡◌, ℕ, zero, suc, ◌+◌, ◌≤◌, min, false, if◌then◌else◌, List, [], ◌∷◌, length, drop, Option, None, Some}
 use Rattle.sctp_model.specs.messages.Format.{Format, ordered_lane, unordered_lane}
 use Rattle.sctp_model.specs.messages.Plan.{Entry, Plan}
-use Rattle.sctp_model.specs.sender.SenderView.{SenderView}
+use Rattle.sctp_model.specs.numbers.Limits.{LONGEST_MESSAGE}
+use Rattle.sctp_model.specs.sender.SenderView.{SendLimits, SenderView}
 use Rattle.sctp_model.specs.sender.Entries.{entry_message, is_of_abandoned, continued}
 use Rattle.sctp_model.specs.sender.Queueing.{owed_by_queue, owed_by_parts}
 use Rattle.sctp_model.specs.sender.Abandoning.{Name, name_of, waits, is_abandoned}
@@ -16,6 +17,10 @@ use Rattle.sctp_send.specs.inner.Walks.{any_item, any_rest, how_many_abandoned}
 use Rattle.sctp_send.specs.inner.Dues.{AreDue}
 use Rattle.sctp_send.specs.declared.kept.message.Fate.{Fate}
 use Rattle.sctp_send.specs.declared.kept.message.Fate.TheVariants.{Queued as StillQueued, Numbered, Withdrawn, Abandoned as WasAbandoned}
+
+-- the limits of every sender: a message has the bytes of the longest at most, and messages that wait are limited by their number alone
+abbrev pub plain_limits : SendLimits
+plain_limits = record { message = LONGEST_MESSAGE; queue = None }
 
 -- what a function answers at n numbers from i on
 abbrev pub table : {A : Type 0} → (ℕ → A) → ℕ → ℕ → List A
@@ -89,7 +94,7 @@ pub record AreOver (s : Kept) (given : ℕ) : Type 0 where
   pub within : s.ended ≤ given
   pub each : (t : ℕ) → t ≤ s.ended → IsOver s t
 
--- It is a view that calls reach; tickets that count as ended are over, no ticket is late before its moment, the FORWARD that was built last is still true
+-- It is a view that calls reach, with these limits; tickets that count as ended are over, no ticket is late before its moment, the FORWARD that was built last is still true
 -- of the entries that it was built from, resets are those that are kept, and the messages that were abandoned are counted.
 pub record Keeps (f : Format) (s : Kept) (v : SenderView) : Type 0 where
   pub holds : Holds s v
@@ -99,6 +104,7 @@ pub record Keeps (f : Format) (s : Kept) (v : SenderView) : Type 0 where
   pub resets : AreResets v.streams s.resets v.resets
   pub before : s.before ≡ last_that v.sent v.cum
   pub counted : s.abandoned ≡ how_many_abandoned s.fates
+  pub limits : v.limits ≡ plain_limits
   pub reached : IsReached f v
 
 -- Stands for: hidden from the crates above, which know it by the clauses alone.

@@ -24,3 +24,4 @@ pub mod Wearing
 pub mod Ordering
 pub mod Resetting
 pub mod Owning
+pub mod Testing

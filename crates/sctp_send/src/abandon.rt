@@ -182,6 +182,7 @@ fn push_end(outstanding: &mut Outstanding, ending: Ending)
         → map (item_meaning size) outstanding.new.items ≡ map (item_meaning size) outstanding.old.items ++ end_item (ending_meaning size ending) ∷ [] }
     ensures kept { length outstanding.old.items < outstanding.old.capacity → IsSameRoom outstanding.old outstanding.new }
     ensures size { outstanding.new.size ≡ outstanding.old.size }
+    ensures header { outstanding.new.header ≡ outstanding.old.header }
 {
     let _kept = outstanding.push(end_mark(ending));
 }

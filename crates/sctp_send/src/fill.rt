@@ -18,7 +18,7 @@ ghost use Rattle.std.specs.Vec.{vec_capacity};
 ghost use Rattle.sctp_model.specs.sender.Filling.{next_wish, fill};
 ghost use Rattle.sctp_model.specs.sender.SenderView.{SenderView};
 ghost use Rattle.sctp_send.specs.SenderStands.{StandsFor};
-ghost use Rattle.sctp_send.specs.FillAnswers.{FillAnswer, HasNext, sendings_of};
+ghost use Rattle.sctp_send.specs.FillAnswers.{AreSentAgain, FillAnswer, HasNext, sendings_of};
 ghost use Rattle.sctp_packet.specs.Draft.{room_in, with_space};
 ghost use Rattle.sctp_send.specs.inner.Stocking.{bare, numbers_of, all_numbered, stocked, AreOpen};
 
@@ -53,43 +53,31 @@ pub struct Filled {
 impl<F: Framing> Sender<F> {
     /// Fills a packet with DATA or I-DATA chunks: first those marked for retransmission, then those that have a TSN and were never sent, then
     /// new ones, as long as they fit and the peer's window (RFC 9260, 6.1, rule A) and the limit of 32,767 outstanding TSNs allow it. Returns
-    /// the tickets of the messages that began.
+    /// the tickets of the messages that began. `again` is cleared, and gets the indexes of the chunks that it retransmits, which count TSNs from 1, the
+    /// initial TSN. It takes memory for them before anything is sent, and none if nothing is retransmitted.
     ///
     /// # Errors
     /// `NoMemory`, only if a chunk could go. The sender's view and the packet are then as before.
     #[inline(always)]
-    pub fn fill(&mut self, packet: &mut PacketWriter) -> Result<Filled, NoMemory>
-        ensures step { (v : SenderView) → StandsFor F.format self.old v → IfOk result (λ filled. FillAnswer F.format v packet.old packet.new self.new filled) }
-        ensures memory { (v : SenderView) → StandsFor F.format self.old v → OnErr result (StandsFor F.format self.new v) }
-        ensures unchanged { OnErr result (packet.new ≡ packet.old) }
-        ensures asked { (v : SenderView) → StandsFor F.format self.old v → OnErr result (HasNext F.format v (room_in packet.old)) }
-    {
-        self.fill_counting(0, packet)
-    }
-
-    /// `fill`, with its retransmissions counted by their cause: those with an index (TSNs counted from 1, the first one) below `missed` were reported
-    /// missing three times (RFC 9260, 7.2.4), the others' data timer expired (6.3.3). Without fast retransmission `missed` is 0.
-    ///
-    /// # Errors
-    /// As `fill`.
-    #[inline(always)]
-    pub fn fill_counting(
+    pub fn fill(
         &mut self,
-        missed: u64,
+        again: &mut Vec<u64>,
         packet: &mut PacketWriter,
     ) -> Result<Filled, NoMemory>
         ensures step { (v : SenderView) → StandsFor F.format self.old v → IfOk result (λ filled. FillAnswer F.format v packet.old packet.new self.new filled) }
-        ensures sendings { (v : SenderView) → StandsFor F.format self.old v → IfOk result (λ filled. filled.sendings ≡ sendings_of missed (fill F.format (room_in packet.old) v).wishes) }
+        ensures sendings { (v : SenderView) → StandsFor F.format self.old v → IfOk result (λ filled. filled.sendings ≡ sendings_of (fill F.format (room_in packet.old) v).wishes) }
+        ensures again { (v : SenderView) → StandsFor F.format self.old v → OnOk result (AreSentAgain v (fill F.format (room_in packet.old) v).wishes again.new.items) }
         ensures memory { (v : SenderView) → StandsFor F.format self.old v → OnErr result (StandsFor F.format self.new v) }
         ensures unchanged { OnErr result (packet.new ≡ packet.old) }
         ensures asked { (v : SenderView) → StandsFor F.format self.old v → OnErr result (HasNext F.format v (room_in packet.old)) }
     {
+        again.clear();
         if self.is_at_rest() {
             let tickets = Vec::new(self.told.alloc);
             let sendings = Sendings::none();
             return Ok(Filled { tickets, sendings });
         }
-        self.fill_on(missed, packet)
+        self.fill_on(again, packet)
     }
 
     /// Nothing is to be sent: no chunk is marked or unsent, the queue is empty, and no message is in part.
@@ -110,36 +98,63 @@ impl<F: Framing> Sender<F> {
         true
     }
 
-    /// `fill_counting`, when something may be to be sent. A function of its own, so that a call with nothing to send stays cheap.
+    /// `fill`, when something may be to be sent. A function of its own, so that a call with nothing to send stays cheap.
     #[inline(never)]
-    fn fill_on(&mut self, missed: u64, packet: &mut PacketWriter) -> Result<Filled, NoMemory>
+    fn fill_on(
+        &mut self,
+        again: &mut Vec<u64>,
+        packet: &mut PacketWriter,
+    ) -> Result<Filled, NoMemory>
+        requires fresh { again.old.items ≡ [] }
         ensures step { (v : SenderView) → StandsFor F.format self.old v → IfOk result (λ filled. FillAnswer F.format v packet.old packet.new self.new filled) }
-        ensures sendings { (v : SenderView) → StandsFor F.format self.old v → IfOk result (λ filled. filled.sendings ≡ sendings_of missed (fill F.format (room_in packet.old) v).wishes) }
+        ensures sendings { (v : SenderView) → StandsFor F.format self.old v → IfOk result (λ filled. filled.sendings ≡ sendings_of (fill F.format (room_in packet.old) v).wishes) }
+        ensures again { (v : SenderView) → StandsFor F.format self.old v → OnOk result (AreSentAgain v (fill F.format (room_in packet.old) v).wishes again.new.items) }
         ensures memory { (v : SenderView) → StandsFor F.format self.old v → OnErr result (StandsFor F.format self.new v) }
         ensures unchanged { OnErr result (packet.new ≡ packet.old) }
         ensures asked { (v : SenderView) → StandsFor F.format self.old v → OnErr result (HasNext F.format v (room_in packet.old)) }
     {
-        let most = most_chunks(packet.room());
+        let room = packet.room();
+        if self.list_again(again, room).is_err() {
+            return self.fill_unreserved(again, packet);
+        }
+        let most = most_chunks(room);
         let Ok(before) = reserve_all(&mut self.parts, most, packet) else {
-            return self.fill_unreserved(packet);
+            return self.fill_unreserved(again, packet);
         };
-        let sendings = self
-            .told
-            .put_all::<F>(&mut self.parts, most, missed, packet);
+        let sendings = self.told.put_all::<F>(&mut self.parts, most, packet);
         packet.restore(before);
         let tickets = take_tickets(self.told.alloc, &mut self.parts.tickets);
         number_all(&mut self.told.fates, &tickets);
         Ok(Filled { tickets, sendings })
     }
 
-    /// `fill_counting`, when memory was refused: an error if and only if some chunk could go.
+    /// Lists the indexes of the chunks that a packet with so much space will retransmit.
+    ///
+    /// # Errors
+    /// `NoMemory`.
+    #[inline(always)]
+    fn list_again(&self, again: &mut Vec<u64>, room: usize) -> Result<(), NoMemory>
+        requires fresh { again.old.items ≡ [] }
+        ensures { (v : SenderView) → StandsFor F.format self.now v → OnOk result (AreSentAgain v (fill F.format room v).wishes again.new.items) }
+    {
+        let cum = self.told.cum;
+        self.parts.outstanding.list_repeats::<F>(cum, room, again)
+    }
+
+    /// `fill`, when memory was refused: an error if and only if some chunk could go.
     #[inline(never)]
-    fn fill_unreserved(&mut self, packet: &PacketWriter) -> Result<Filled, NoMemory>
+    fn fill_unreserved(
+        &mut self,
+        again: &mut Vec<u64>,
+        packet: &PacketWriter,
+    ) -> Result<Filled, NoMemory>
         ensures step { (v : SenderView) → StandsFor F.format self.old v → IfOk result (λ filled. FillAnswer F.format v packet.now packet.now self.new filled) }
-        ensures sendings { (v : SenderView) (missed : ℕ) → StandsFor F.format self.old v → IfOk result (λ filled. filled.sendings ≡ sendings_of missed (fill F.format (room_in packet.now) v).wishes) }
+        ensures sendings { (v : SenderView) → StandsFor F.format self.old v → IfOk result (λ filled. filled.sendings ≡ sendings_of (fill F.format (room_in packet.now) v).wishes) }
+        ensures again { (v : SenderView) → StandsFor F.format self.old v → OnOk result (AreSentAgain v (fill F.format (room_in packet.now) v).wishes again.new.items) }
         ensures memory { (v : SenderView) → StandsFor F.format self.old v → OnErr result (StandsFor F.format self.new v) }
         ensures asked { (v : SenderView) → StandsFor F.format self.old v → OnErr result (HasNext F.format v (room_in packet.now)) }
     {
+        again.clear();
         self.parts.tickets.clear();
         let room = packet.room();
         if let Some(_going) = self.told.next_going::<F>(&mut self.parts, room) {

@@ -10,26 +10,27 @@
 //! | [`Sender::queue`] | `answer`: the first of NoSuchStream, Resetting, Empty, TooLong, QueueFull, Spent that applies, each if and only if it is the first; NoMemory only if none applies; an accepted message has the next ticket. `step`: the view with the message at the end of its queue, cut into fragments, or the same view |
 //! | [`Sender::queue_limited`] | as `queue`, of a message each of whose fragments is retransmitted at most so often, if there is a limit |
 //! | [`Sender::fill`] | `step`: the packet gets the longest list of chunks of which each is the next to be sent and may go (it fits, the flow rule and the window allow it), after its own chunks; the sender stands for the view after them; the tickets returned are those of the messages that began, in the order of their first TSNs. `memory`, `unchanged`: after NoMemory it stands for the same view, and the packet is as it was. `asked`: then a chunk could go |
-//! | [`Sender::fill_counting`], [`Sendings`] | as `fill`; `sendings`: how many of the chunks were sent for the first time, and how many were retransmitted with an index below a given one, and not below it |
+//! | [`Sendings`], [`Sender::may_repeat`] | of that packet `sendings`: how many of the chunks were sent for the first time, and how many again; `again`: the list has the indexes of those that were sent again, by rising index, and no others (`AreSentAgain`); whether there may be one |
 //! | [`Sender::trim`] | the same view: memory that a burst took and of which less than an eighth is used is given back, if it is for more than 128 entries or messages: of entries and their order by ticket, the queue and its seats, fates and deadlines (`kept/giving_back.rt`, `queueing/passing.rt`) |
 //! | [`Sender::take_buffer`] | the same view: an empty buffer with the capacity that is asked for, that of a message that is over, or none; of 64 messages those of 128 bytes at most are kept |
 //! | [`Sender::recycle_tickets`] | the same view: the buffer of the tickets that a fill returned is used for the next fill |
 //! | [`Sender::on_sack`] | `answer`: the first of Stale, Beyond, BadBlock that applies, in this order, each if and only if it is the first. `step`: the view with the SACK's CUM, gap blocks (in place of those of the last SACK) and window, or the same view |
 //! | [`Sender::on_shutdown`] | as `on_sack` for the cumulative TSN of a SHUTDOWN; what gap blocks acknowledged beyond it stays acknowledged |
 //! | [`Sender::on_timeout`] | every chunk that was sent and is neither acknowledged nor abandoned is marked for retransmission, unless it was retransmitted as often as its message's limit allows |
-//! | [`Sender::on_missed`] | so are those with the indexes from one on, below another |
+//! | [`Sender::on_missed`], [`IndexTest`] | so are those that a caller names, by a range of indexes and a test (`AgreeInFlight`) |
 //! | [`Sender::abandon`] | `answer`: the first of the five answers that applies. `step`: a message without a TSN leaves the queue; one with TSNs is abandoned, with its marks; one sent in part gets an end mark |
 //! | [`Sender::wear`] | each message is abandoned, as by `abandon`, if one of its outstanding fragments was retransmitted as often as its limit allows |
-//! | [`Sender::wear_between`] | so is each message if one of its outstanding fragments with the indexes from one on, below another, was |
+//! | [`Sender::wear_between`] | so is each message if one of its outstanding fragments was that the caller names, by a range of indexes and a test (`AgreeAbove`) |
 //! | [`Sender::next_at_limit`] | the lowest ticket above one of a message that isn't abandoned and has an outstanding fragment retransmitted as often as its limit allows |
 //! | [`Sender::expire`] | each message whose lifetime is over is abandoned, by rising ticket, as `abandon` would |
 //! | [`Sender::put_forward`] | `answer`: true if and only if the FORWARD goes past CUM and fits what is left of the packet. `after`: the packet has it after its other chunks, or is as before. `reaches`: with the least packet limit or more it goes past CUM whenever the point does. `memory`, `unchanged`: NoMemory only if the chunk would have gone in, and the packet is then as before |
 //! | [`Sender::keep_forward`] | the sender stands for the same views: it builds the FORWARD ahead, for `put_forward` to take |
 //! | [`Sender::has_late`], [`Sender::next_late`] | whether a message that may be abandoned is late, and the lowest such ticket above one; if none is, `expire` changes nothing (`idle`) |
-//! | [`Sender::cum`], [`Sender::point`], [`Sender::unsettled`], [`Sender::outstanding`], [`Sender::drained`], [`Sender::acknowledged`], [`Sender::abandoned`], [`Sender::abandoned_messages`], [`Sender::tickets`], [`Sender::peer_window`], [`Sender::stream_count`] | exactly the functions of `sender/Readers` of the model, and how many tickets are of abandoned messages; at most 32,767 are outstanding (`bound`) |
-//! | [`Sender::in_flight`], [`Sender::last_sent`], [`Sender::room_of_repeats`] | the bytes in flight, the highest index that was sent, the space of the retransmissions among what `fill` would put into a packet: exactly `in_flight`, `last_sent`, `room_of_repeats` of the model |
-//! | [`Sender::first_missed`], [`Sender::is_marked_or_covered`] | the lowest index in flight from one on, below another; whether an index is marked or acknowledged |
-//! | [`Sender::weigh`], [`Sender::weigh_shutdown`], [`Weight`] | of a SACK or a SHUTDOWN without a fault, before it is taken: whether it moves CUM, CUM after it, the highest indexes and the bytes that it newly acknowledges, and whether the chunk that is timed is among them (`IsWeight`) |
+//! | [`Sender::cum`], [`Sender::point`], [`Sender::unsettled`], [`Sender::outstanding`], [`Sender::drained`], [`Sender::has_more`], [`Sender::acknowledged`], [`Sender::abandoned`], [`Sender::abandoned_messages`], [`Sender::tickets`], [`Sender::peer_window`], [`Sender::stream_count`], [`Sender::fragment_size`] | exactly the functions of `sender/Readers` of the model, and how many tickets are of abandoned messages; at most 32,767 are outstanding (`bound`) |
+//! | [`Sender::in_flight`], [`Sender::chunk_flight`], [`Sender::last_sent`], [`Sender::room_of_repeats`] | the bytes of data in flight, those of their chunks, the highest index that was sent, the space of the retransmissions among what `fill` would put into a packet: exactly `in_flight`, `chunk_flight`, `last_sent`, `room_of_repeats` of the model |
+//! | [`Sender::first_missed`], [`Sender::is_marked_or_covered`] | the lowest index in flight that the caller names, by a range of indexes and a test (`AgreeInFlight`); whether an index is marked or acknowledged |
+//! | [`Sender::weigh`], [`Sender::weigh_shutdown`], [`Weight`] | of a SACK or a SHUTDOWN without a fault, before it is taken: whether it moves CUM, CUM after it, the highest indexes and the bytes of chunks that it newly acknowledges, and whether the chunk that is timed is among them (`IsWeight`) |
+//! | [`Sender::list_taken_back`] | of a SACK without a fault, before it is taken: the list has the indexes that it takes back, by rising index, and no others (`back`, by `AreTakenBack`); none of them is above the index that is returned (`highest`) |
 //! | [`Sender::queued`], [`Sender::queued_bytes`] | the length and the bytes of the queue; at most 1,024 messages of 65,536 bytes (`bound`) |
 //! | [`Sender::queued_bytes_on`] | the bytes of the messages in the queue that are on one stream with one of the given payload protocol identifiers; no more than all of it may have (`bound`). Of user data of data channels (51 and 53, in this order) it is kept as a number of each stream |
 //! | [`Sender::reset`], [`Sender::is_resetting`], [`Sender::resetting_streams`] | the stream takes no further message (`resetting`), or the same view if memory is refused (`memory`); whether it waits for its reset, and how many do |
@@ -38,8 +39,8 @@
 //! | [`Sender::reached`] | a law: each view that a sender stands for is one that its calls reach |
 //! | [`Sender::limited`] | laws: an abandoned message isn't at its limit (`gone`), and `wear` and `wear_between` abandon only messages that `next_at_limit` gives (`only`) |
 //!
-//! Only `new`, `queue`, `queue_limited`, `fill`, `put_forward`, `reset` and `ask` return NoMemory; `keep_forward` may allocate, `trim` allocates nothing but
-//! smaller blocks in place of larger ones, and the others don't allocate. So that `abandon`, `expire`, `wear` and SACKs needn't, nor a `fill` in its
+//! Only `new`, `queue`, `queue_limited`, `fill`, `list_taken_back`, `put_forward`, `reset` and `ask` return NoMemory; `keep_forward` may allocate, `trim`
+//! allocates nothing but smaller blocks in place of larger ones, and the others don't allocate. So that `abandon`, `expire`, `wear` and SACKs needn't, nor a `fill` in its
 //! middle, a queued message reserves the entries of its fragments and of its end mark (`room` of `Holds`), and the first one the space for the runs of
 //! SACKs. Neither is given back while it may be needed.
 //!
@@ -70,10 +71,10 @@
 //! to its own, 4 bytes each, if there is none yet: the table doubles. What is kept for that is in `kept`, and each part's counts are its invariant: an
 //! entry takes 32 bytes with the count of its retransmissions, which ends at 65,535, as limits do.
 //!
-//! The files of `src` form a path on which each imports only what is before it: `last_forward`, `message`, `request`, `sendings`; `blocks`, `by_ticket`,
+//! The files of `src` form a path on which each imports only what is before it: `index_test`, `last_forward`, `message`, `request`, `sendings`; `blocks`, `by_ticket`,
 //! `dues`, `entry`, `resets`, `seats`, `shells`, `user_data`; `fates`, `heads`, `naming`, `pieces`; `queue`, `told`, `track`, `wishes`; `counts`, `looking`, `queued_on`;
-//! `streams`, `stretches`; `acknowledging`, `outstanding`; `by_message`, `entries`, `flying`, `giving_back`, `going_out`, `lanes`, `marking`,
-//! `repeats`, `run_room`, `searching`, `stock`, `table`, `tally`, `telling`, `weight`; `assigning`, `covered`, `others`, `restarting`, `sender`,
+//! `streams`, `stretches`; `acknowledging`, `outstanding`; `by_message`, `entries`, `giving_back`, `going_out`, `lanes`, `marking`,
+//! `run_room`, `searching`, `stock`, `table`, `tally`, `telling`, `weight`; `assigning`, `covered`, `flying`, `others`, `repeats`, `restarting`, `sender`,
 //! `still`, `waking`; `answering`, `asking`, `at_limit`, `last`, `laws`, `owing`, `pace`, `readers`, `resetting`, `sack`, `wear`, `weighing`; `abandon`,
 //! `entering`, `keeping`, `moments`, `passing`, `queueing`, `turning`; `expire`, `fill`, `forward`.
 //!
@@ -84,6 +85,7 @@
 mod abandon;
 mod fill;
 mod forward;
+mod index_test;
 mod kept;
 mod laws;
 mod pace;
@@ -98,6 +100,7 @@ mod told;
 pub use abandon::Abandoned;
 pub use fill::Filled;
 pub use fill::sendings::Sendings;
+pub use index_test::IndexTest;
 pub use pace::weight::Weight;
 pub use queueing::SendFault;
 pub use resetting::{EarlierRequest, ResetRequest};

@@ -1,5 +1,6 @@
 //! What can be read from a sender.
 
+pub mod more;
 pub mod queued_on;
 
 ghost use Rattle.std.specs.Prelude.{◌≡◌, ℕ, Bool, ◌<◌, ◌≤◌, ◌^◌, ◌%◌, ◌*◌, ◌&&◌, not, map, length};
@@ -115,6 +116,13 @@ impl<F: Framing> Sender<F> {
         ensures { (v : SenderView) → StandsFor F.format self.now v → result ≡ v.streams }
     {
         self.told.streams
+    }
+
+    /// The most bytes of user data in a fragment (RFC 9260, 6.9).
+    pub fn fragment_size(&self) -> u16
+        ensures { (v : SenderView) → StandsFor F.format self.now v → result ≡ v.fragment }
+    {
+        self.told.fragment
     }
 
     /// The number of tickets issued, one for each message accepted by `queue`. They are 1 to this number.

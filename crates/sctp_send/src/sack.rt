@@ -15,15 +15,17 @@ pub mod marking;
 pub mod telling;
 pub mod waking;
 
-ghost use Rattle.std.specs.Prelude.{◌≡◌, ◌-◌, ◌≤◌, ◌&&◌, nat_le, nat_lt, length, None, IfOk};
+ghost use Rattle.std.specs.Prelude.{◌≡◌, ℕ, ◌-◌, ◌≤◌, Bool, length, None, IfOk};
 ghost use Rattle.sctp_model.specs.sender.SenderView.{SenderView};
 ghost use Rattle.sctp_model.specs.sender.SackTaken.{some_is_bad, some_ends_past, sack_fault, sack_after, shutdown_fault, shutdown_after};
 ghost use Rattle.sctp_model.specs.sender.Abandoning.{timed_out, marking};
 ghost use Rattle.sctp_wire.specs.ChunkTree.{sack_meaning};
 ghost use Rattle.sctp_send.specs.SenderStands.{StandsFor};
 ghost use Rattle.sctp_send.specs.SenderAnswers.{reason_meaning};
+ghost use Rattle.sctp_send.specs.PaceAnswers.{AgreeInFlight};
 ghost use Rattle.sctp_send.specs.inner.Acknowledging.{PassingAnswer, SackAnswer, block_fault};
 
+use crate::index_test::{EachIndex, IndexTest};
 use crate::sack::covered::cover_blocks;
 use crate::sack::entries::{forget, move_on};
 use crate::sack::marking::{mark_between, offset_of};
@@ -123,21 +125,31 @@ impl<F: Framing> Sender<F> {
         ensures { (v : SenderView) → StandsFor F.format self.old v → StandsFor F.format self.new (timed_out v) }
     {
         let last = self.parts.outstanding.len();
-        mark_between(&mut self.parts.outstanding, self.told.partial, 0, last);
+        mark_between(
+            &mut self.parts.outstanding,
+            self.told.partial,
+            self.told.cum,
+            0,
+            last,
+            &EachIndex,
+        );
     }
 
-    /// The chunks with the indexes from `from` on, below `below`, are missing at the peer: each that was sent and is neither acknowledged nor abandoned
-    /// is marked for retransmission (RFC 9260, 7.2.4), unless it was retransmitted as often as its message's limit allows (RFC 7496, 3.1). Indexes
-    /// count TSNs from 1, the initial TSN. It doesn't allocate.
-    pub fn on_missed(&mut self, from: u64, below: u64)
-        ensures { (v : SenderView) → StandsFor F.format self.old v → StandsFor F.format self.new (marking v (λ i. nat_le from i && nat_lt i below)) }
+    /// The chunks with the indexes from `from` on, below `below`, that pass the test are missing at the peer: each that was sent and is neither
+    /// acknowledged nor abandoned is marked for retransmission (RFC 9260, 7.2.4), unless it was retransmitted as often as its message's limit allows
+    /// (RFC 7496, 3.1). Indexes count TSNs from 1, the initial TSN. It costs a walk over that range, and doesn't allocate.
+    pub fn on_missed<T: IndexTest>(&mut self, from: u64, below: u64, test: &T)
+        ensures { (v : SenderView) (missed : ℕ → Bool) → StandsFor F.format self.old v → AgreeInFlight v from below (T.Says test.now) missed
+            → StandsFor F.format self.new (marking v missed) }
     {
         let cum = self.told.cum;
         mark_between(
             &mut self.parts.outstanding,
             self.told.partial,
+            cum,
             offset_of(cum, from),
             offset_of(cum, below),
+            test,
         );
     }
 

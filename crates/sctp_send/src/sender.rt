@@ -4,7 +4,7 @@ ghost use Rattle.std.specs.Prelude.{◌≡◌, ℕ, ◌<◌, ◌≤◌};
 ghost use Rattle.std.specs.Prelude.{IfOk};
 ghost use Rattle.sctp_model.specs.numbers.Limits.{GREATEST_FRAGMENT};
 ghost use Rattle.sctp_model.specs.sender.SenderView.{SenderView, fresh_sender};
-ghost use Rattle.sctp_send.specs.SenderStands.{StandsFor};
+ghost use Rattle.sctp_send.specs.SenderStands.{StandsFor, plain_limits};
 
 use crate::kept::dues::Dues;
 use crate::kept::fates::Fates;
@@ -63,7 +63,7 @@ impl<F: Framing> Model for Sender<F> {
       resets = s.told.resets;
     } };
 
-    ghost invariant = { λ s. IsSized s.told.fragment s.parts };
+    ghost invariant = { λ s. IsSized F.format s.told.fragment s.parts };
 }
 
 #[tactic(auto, unfolding(crate::specs::SenderStands::StandsFor))]
@@ -84,7 +84,7 @@ impl<F: Framing> Sender<F> {
     ) -> Result<Sender<F>, NoMemory>
         requires some { 0 < fragment }
         requires short { fragment ≤ GREATEST_FRAGMENT }
-        ensures { IfOk result (λ sender. StandsFor F.format sender (fresh_sender initial_tsn streams fragment peer_rwnd partial)) }
+        ensures { IfOk result (λ sender. StandsFor F.format sender (fresh_sender initial_tsn streams fragment peer_rwnd partial plain_limits)) }
     {
         let all_streams = Streams::new(alloc, streams, fragment, F::takes_turns())?;
         let mut shells = Vec::new(alloc);
@@ -110,7 +110,7 @@ impl<F: Framing> Sender<F> {
             },
             parts: Stock {
                 // what is outstanding, by offset from CUM + 1
-                outstanding: Outstanding::new(alloc, fragment),
+                outstanding: Outstanding::new(alloc, fragment, F::header() as u16),
                 queue: Queue::new(alloc, fragment, F::takes_turns()),
                 streams: all_streams,
                 turn: 0,

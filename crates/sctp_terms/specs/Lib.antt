@@ -1,3 +1,4 @@
 pub mod Meanings
 pub mod Modes
 pub mod DataChannels
+pub mod PlainOptions

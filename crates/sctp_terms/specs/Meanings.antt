@@ -27,6 +27,11 @@ config_code configured.WrongLimit = 2
 config_code configured.WrongFragment = 3
 config_code configured.WrongBuffer = 4
 config_code configured.WrongStreams = 5
+config_code configured.WrongWait = 6
+config_code configured.WrongReserve = 7
+config_code configured.WrongMessage = 8
+config_code configured.WrongQueue = 9
+config_code configured.WrongGrowth = 10
 
 -- where an end stands (RFC 9260, 4)
 abbrev pub state_meaning : State → view.State

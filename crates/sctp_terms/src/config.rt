@@ -41,18 +41,11 @@ pub struct Config {
 
 impl Model for Config {
     ghost use Rattle.sctp_model.specs.end.EndView.{Configuration};
-    ghost use Rattle.sctp_model.specs.end.Configured.{IsConfiguration};
+    ghost use Rattle.sctp_model.specs.end.Configured.{IsConfiguration, plain_configuration};
 
     ghost Value = { Configuration };
 
-    ghost view = { λ c. record {
-      own_port = c.own_port;
-      peer_port = c.peer_port;
-      limit = c.limit;
-      fragment = c.fragment;
-      buffer = c.buffer;
-      outbound = c.outbound;
-      inbound = c.inbound;
+    ghost view = { λ c. record (plain_configuration c.own_port c.peer_port c.limit c.fragment c.buffer c.outbound c.inbound) {
       interleave = c.interleave;
       partial = c.partial;
       delay = c.delay;
@@ -81,14 +74,7 @@ impl Model for Config {
       reset = c.reset;
     } };
 
-    ghost invariant = { λ c. IsConfiguration (record {
-      own_port = c.own_port;
-      peer_port = c.peer_port;
-      limit = c.limit;
-      fragment = c.fragment;
-      buffer = c.buffer;
-      outbound = c.outbound;
-      inbound = c.inbound;
+    ghost invariant = { λ c. IsConfiguration (record (plain_configuration c.own_port c.peer_port c.limit c.fragment c.buffer c.outbound c.inbound) {
       interleave = c.interleave;
       partial = c.partial;
       delay = c.delay;

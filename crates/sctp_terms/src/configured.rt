@@ -3,7 +3,8 @@
 ghost use Rattle.std.specs.Prelude.{◌≡◌, ◌≤◌, ◌<◌, ◌+◌};
 ghost use Rattle.sctp_model.specs.numbers.Limits.{STREAM_LIMIT, LEAST_PACKET, GREATEST_PACKET, LEAST_FRAGMENT, GREATEST_FRAGMENT, FRAGMENT_OVERHEAD, LEAST_BUFFER, GREATEST_BUFFER};
 ghost use Rattle.sctp_model.specs.wire.Chunk.{padded};
-ghost use Rattle.sctp_model.specs.end.Configured.{IsConfiguration};
+ghost use Rattle.sctp_model.specs.end.Configured.{IsConfiguration, HasBoundedOptions};
+ghost use Rattle.sctp_terms.specs.PlainOptions.{HasPlainOptions};
 
 use crate::config::Config;
 
@@ -31,6 +32,9 @@ impl Config {
         ensures greatest { result ≤ GREATEST_PACKET }
         // Every configuration is within its limits.
         ensures configured { IsConfiguration self.now }
+        // It asks for none of these options, and so each is within its bounds.
+        ensures plain { HasPlainOptions self.now }
+        ensures bounded { HasBoundedOptions self.now }
     {
         self.limit
     }

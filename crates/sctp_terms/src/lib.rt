@@ -1,9 +1,9 @@
 //! The vocabulary that an endpoint and its users share: its configuration, the random values that it needs, its state and how its association
 //! ended, and why a packet or a call is refused.
 //!
-//! Contracts see a [`Config`] as the definitions' `Configuration` (`sctp_model/specs/end/EndView`), which is within its limits
-//! (`IsConfiguration`, `end/Configured`), and a [`Draw`] as their `Draw`, whose tag isn't 0 (`IsDraw`). What the other types mean in the
-//! definitions is in `specs/Meanings`.
+//! Contracts see a [`Config`] as the definitions' `Configuration` (`sctp_model/specs/end/Settings`), which is within its limits
+//! (`IsConfiguration`, `end/Configured`) and asks for none of the options of waits, HEARTBEATs, memory and checksums (`HasPlainOptions`), and a
+//! [`Draw`] as their `Draw`, whose tag isn't 0 (`IsDraw`). What the other types mean in the definitions is in `specs/Meanings`.
 //!
 //! | public function | what is promised |
 //! |---|---|
@@ -16,7 +16,7 @@
 //! | [`Config::with_fast_retransmit`], [`Config::with_congestion_control`], [`Config::with_rto_min`] | this configuration, with fast retransmission; with congestion control and fast retransmission; with another RTO.Min |
 //! | [`Config::limit`] and the other readers | the value that it was made with, within its limits |
 //! | [`Settings::of`], [`Settings::with_limit`] and the others, [`Settings::checked`] | a configuration's values; the same with other ones; the configuration with these values, None if they have a fault |
-//! | [`faultless_is_configured`] (law) | a configuration with ports of 16 bits has no fault if and only if it is within its limits |
+//! | [`faultless_is_configured`] (law) | a configuration with ports of 16 bits has no fault if and only if it and its options are within their limits |
 //! | [`Draw::new`] | these random values; None if and only if the tag is 0 |
 //! | [`Draw::tag`], [`Draw::tsn`] | the value that it was made with; the tag is never 0, and both have 32 bits |
 //! | [`Mode::asked`] | this configuration, asking also for what the mode says: for neither extension, for one, or for both |

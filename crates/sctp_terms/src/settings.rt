@@ -33,17 +33,11 @@ pub struct Settings {
 
 impl Model for Settings {
     ghost use Rattle.sctp_model.specs.end.EndView.{Configuration};
+    ghost use Rattle.sctp_model.specs.end.Configured.{plain_configuration};
 
     ghost Value = { Configuration };
 
-    ghost view = { λ c. record {
-      own_port = c.own_port;
-      peer_port = c.peer_port;
-      limit = c.limit;
-      fragment = c.fragment;
-      buffer = c.buffer;
-      outbound = c.outbound;
-      inbound = c.inbound;
+    ghost view = { λ c. record (plain_configuration c.own_port c.peer_port c.limit c.fragment c.buffer c.outbound c.inbound) {
       interleave = c.interleave;
       partial = c.partial;
       delay = c.delay;

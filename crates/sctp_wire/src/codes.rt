@@ -80,6 +80,8 @@ pub const COOKIE_PRESERVATIVE: u16 = 9;
 pub const HOST_NAME: u16 = 11;
 /// The parameter Supported Address Types, which is passed over (RFC 9260, 3.3.2.1).
 pub const ADDRESS_TYPES: u16 = 12;
+/// The parameter Zero Checksum Acceptable: its value is the number of the method that detects errors in place of the checksum (RFC 9653, 4).
+pub const ZERO_CHECKSUM: u16 = 0x8001;
 /// The parameter Supported Extensions: a byte for each chunk type (RFC 5061, 4.2.7).
 pub const SUPPORTED_EXTENSIONS: u16 = 0x8008;
 /// The parameter Forward-TSN-Supported (RFC 3758, 3.1).

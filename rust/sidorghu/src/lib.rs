@@ -50,7 +50,7 @@
 //!
 //! The code below this crate's front is proved: it is written in Rattle, which is Rust with contracts, and the build of this crate erases the proof
 //! and leaves the code. Each call does what the specification says, for any input, also if memory is refused; over any two endpoints and any network,
-//! what is delivered was sent, once and in order (the repository's README). **None of the 99 public functions below this front requires anything
+//! what is delivered was sent, once and in order (the repository's README). **None of the 100 public functions below this front requires anything
 //! of its caller, so no safe program can leave what is proved.**
 //!
 //! The erased code isn't proved again: that it is the proved code rests on the eraser's table, rustc, a hand-written stand-in for Rattle's standard

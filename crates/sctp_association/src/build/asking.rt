@@ -1,11 +1,14 @@
 //! A request to reset streams is made before the packet that carries it, and taken back if that packet can't be built (RFC 6525, 5.1).
 
-ghost use Rattle.std.specs.Prelude.{◌≡◌, true, if◌then◌else◌, is_some, IfOk, IfSome, OnOk, OnErr};
+ghost use Rattle.std.specs.Prelude.{◌≡◌, ℕ, Option, true, if◌then◌else◌, is_some, IfOk, IfSome, OnOk, OnErr};
 ghost use Rattle.sctp_model.specs.sender.Resetting.{may_ask, asked};
-ghost use Rattle.sctp_model.specs.end.EndView.{EndView, ResetAlarm};
+ghost use Rattle.sctp_model.specs.messages.Format.{Format};
+ghost use Rattle.sctp_model.specs.end.Pacing.{Pace};
+ghost use Rattle.sctp_model.specs.end.EndView.{EndView, ResetAlarm, waits_of};
 ghost use Rattle.sctp_model.specs.end.Clock.{is_home};
 ghost use Rattle.sctp_model.specs.end.Reconfiguring.{asking_now, asking_wait, request_wait};
 ghost use Rattle.sctp_send.specs.ResetAnswers.{WasMade};
+ghost use Rattle.sctp_congestion.specs.PaceStands.{PacesStand};
 ghost use Rattle.sctp_association.specs.Asks.{asks, WasBefore};
 ghost use Rattle.sctp_association.specs.PhaseMeans.{phase_in};
 ghost use Rattle.sctp_association.specs.MachineStands.{MachineStands};
@@ -133,8 +136,10 @@ impl Machine {
 
 /// The same, of an endpoint with this configuration and this pace.
 fn request_wait(config: &Config, pace: &Option<Pacing>) -> u64
-    ensures { result ≡ request_wait config.now.least_wait pace.now }
+    ensures { (f : Format) (cum : ℕ) (o : Option Pace) → PacesStand f cum pace.now o → result ≡ request_wait (waits_of config.now) o }
 {
+    // By the clause of `limit` its options are plain.
+    let _limit = config.limit();
     match pace {
         Some(pace) => pace.trips().rto(config.rto_min()),
         None => FIRST_WAIT,

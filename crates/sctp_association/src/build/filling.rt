@@ -1,7 +1,7 @@
 //! What the sender puts into a packet: FORWARD-TSN, and user data after all control chunks (RFC 9260, 6.1 and 6.3.2; RFC 3758, 3.5; RFC 8260, 2.2
 //! and 2.3.1).
 
-ghost use Rattle.std.specs.Prelude.{◌≡◌, ◌≤◌, ◌&&◌, nat_lt, length, None, map, IfOk, OnOk, OnErr};
+ghost use Rattle.std.specs.Prelude.{◌≡◌, ◌≤◌, ◌&&◌, ℕ, Option, None, false, nat_lt, [], length, map, IfOk, OnOk, OnErr};
 ghost use Rattle.sctp_model.specs.numbers.Limits.{LEAST_PACKET, GREATEST_PACKET};
 ghost use Rattle.sctp_model.specs.messages.Format.{Format};
 ghost use Rattle.sctp_model.specs.sender.SenderView.{SenderView};
@@ -12,12 +12,12 @@ ghost use Rattle.sctp_model.specs.end.EndView.{EndView, format_of};
 ghost use Rattle.sctp_model.specs.end.Clock.{is_point_past};
 ghost use Rattle.sctp_model.specs.end.Building.{room_behind, filled_behind, sent};
 ghost use Rattle.sctp_packet.specs.Draft.{room_in, with_chunks, has_room, after_try};
-ghost use Rattle.sctp_model.specs.end.Wearing.{missed_below};
+ghost use Rattle.sctp_model.specs.end.Pacing.{Pace};
+ghost use Rattle.sctp_congestion.specs.PaceStands.{PacesStand};
 ghost use Rattle.sctp_send.specs.SenderStands.{StandsFor};
-ghost use Rattle.sctp_send.specs.FillAnswers.{sendings_of};
-ghost use Rattle.sctp_association.specs.Sends.{FillsNone};
+ghost use Rattle.sctp_send.specs.FillAnswers.{sendings_of, sent_again, AreSentAgain};
 ghost use Rattle.sctp_association.specs.StartsMean.{starts_at, with_fragments};
-ghost use Rattle.sctp_association.specs.TrafficStands.{TrafficStands};
+ghost use Rattle.sctp_association.specs.TrafficStands.{TrafficStands, indexes_of};
 ghost use Rattle.sctp_association.specs.Drafted.{drafted, IsOf, IsOwn};
 ghost use Rattle.sctp_association.specs.FillsBehind.{FillsBehind};
 ghost use Rattle.sctp_association.specs.declared.time.starts.Starts as starts;
@@ -25,13 +25,14 @@ ghost use Rattle.sctp_association.specs.declared.build.packing.Marks as marks;
 
 use crate::build::pacing::fill_by;
 use crate::build::packing::Packing;
+use crate::build::sendings::{Filled, Sendings};
 use crate::time::starts::Starts;
 use crate::time::timer::Alarm;
 use crate::traffic::Traffic;
 use sctp_congestion::Pacing;
 use sctp_framing::Framing;
 use sctp_packet::PacketWriter;
-use sctp_send::{Filled, Sender, Sendings};
+use sctp_send::Sender;
 use sctp_values::NoMemory;
 use std::alloc::Global;
 
@@ -71,16 +72,12 @@ impl Traffic {
     }
 
     /// Fills the packet with DATA or I-DATA chunks, as many as may be sent and fit (RFC 9260, 6.1). It returns the tickets of the messages that were
-    /// assigned their TSNs, and how many chunks were sent first and again: what has an index below `missed` was missed (RFC 9260, 7.2.4).
+    /// assigned their TSNs, and how many chunks were sent first and again; `indexes` has those that were sent again.
     ///
     /// # Errors
     /// `NoMemory` if an allocation was refused; nothing of the traffic changed then.
     #[inline(always)]
-    pub(crate) fn fill(
-        &mut self,
-        missed: u64,
-        packet: &mut PacketWriter,
-    ) -> Result<Filled, NoMemory>
+    pub(crate) fn fill(&mut self, packet: &mut PacketWriter) -> Result<sctp_send::Filled, NoMemory>
         ensures chunks { (f : Format) (s : SenderView) (r : ReceiverView) → TrafficStands self.old f s r
             → OnOk result (packet.new ≡ with_chunks packet.old (map (chunk_of f) (fill f (room_in packet.old) s).wishes)) }
         ensures step { (f : Format) (s : SenderView) (r : ReceiverView) → TrafficStands self.old f s r
@@ -88,33 +85,51 @@ impl Traffic {
         ensures tickets { (f : Format) (s : SenderView) (r : ReceiverView) → TrafficStands self.old f s r
             → IfOk result (λ filled. map (λ t. t.0) filled.tickets.items ≡ newly_numbered s (fill f (room_in packet.old) s).view) }
         ensures sendings { (f : Format) (s : SenderView) (r : ReceiverView) → TrafficStands self.old f s r
-            → IfOk result (λ filled. filled.sendings ≡ sendings_of missed (fill f (room_in packet.old) s).wishes) }
+            → IfOk result (λ filled. filled.sendings ≡ sendings_of (fill f (room_in packet.old) s).wishes) }
+        ensures again { (f : Format) (s : SenderView) (r : ReceiverView) → TrafficStands self.old f s r
+            → OnOk result (AreSentAgain s (fill f (room_in packet.old) s).wishes (indexes_of self.new)) }
         ensures memory { (f : Format) (s : SenderView) (r : ReceiverView) → TrafficStands self.old f s r → OnErr result (TrafficStands self.new f s r) }
     {
         match self {
-            Traffic::Plain(directions) => fill_from(&mut directions.sender, missed, packet),
-            Traffic::Interleaved(directions) => fill_from(&mut directions.sender, missed, packet),
+            Traffic::Plain(directions) => {
+                fill_from(&mut directions.sender, &mut directions.indexes, packet)
+            }
+            Traffic::Interleaved(directions) => {
+                fill_from(&mut directions.sender, &mut directions.indexes, packet)
+            }
+        }
+    }
+
+    /// A packet may retransmit something; if not, it retransmits nothing.
+    #[inline(always)]
+    pub(crate) fn may_repeat(&self) -> bool
+        ensures { (f : Format) (s : SenderView) (r : ReceiverView) → TrafficStands self.now f s r → result ≡ false → (room : ℕ) → sent_again (fill f room s).wishes ≡ [] }
+    {
+        match self {
+            Traffic::Plain(directions) => directions.sender.may_repeat(),
+            Traffic::Interleaved(directions) => directions.sender.may_repeat(),
         }
     }
 }
 
-/// `Sender::fill_counting`, with its contract in terms of the function that computes what is filled in.
+/// `Sender::fill`, with its contract in terms of the function that computes what is filled in.
 #[inline(always)]
 fn fill_from<F: Framing>(
     sender: &mut Sender<F>,
-    missed: u64,
+    again: &mut Vec<u64>,
     packet: &mut PacketWriter,
-) -> Result<Filled, NoMemory>
+) -> Result<sctp_send::Filled, NoMemory>
     ensures chunks { (s : SenderView) → StandsFor F.format sender.old s
         → OnOk result (packet.new ≡ with_chunks packet.old (map (chunk_of F.format) (fill F.format (room_in packet.old) s).wishes)) }
     ensures step { (s : SenderView) → StandsFor F.format sender.old s → OnOk result (StandsFor F.format sender.new (fill F.format (room_in packet.old) s).view) }
     ensures tickets { (s : SenderView) → StandsFor F.format sender.old s
         → IfOk result (λ filled. map (λ t. t.0) filled.tickets.items ≡ newly_numbered s (fill F.format (room_in packet.old) s).view) }
     ensures sendings { (s : SenderView) → StandsFor F.format sender.old s
-        → IfOk result (λ filled. filled.sendings ≡ sendings_of missed (fill F.format (room_in packet.old) s).wishes) }
+        → IfOk result (λ filled. filled.sendings ≡ sendings_of (fill F.format (room_in packet.old) s).wishes) }
+    ensures again { (s : SenderView) → StandsFor F.format sender.old s → OnOk result (AreSentAgain s (fill F.format (room_in packet.old) s).wishes again.new.items) }
     ensures memory { (s : SenderView) → StandsFor F.format sender.old s → OnErr result (StandsFor F.format sender.new s) }
 {
-    sender.fill_counting(missed, packet)
+    sender.fill(again, packet)
 }
 
 /// The DATA or I-DATA chunks that went into a packet.
@@ -122,52 +137,44 @@ fn fill_from<F: Framing>(
 pub(crate) struct Fragments {
     /// There are some.
     pub(crate) some: bool,
-    /// The tickets of the messages that were assigned their TSNs with them, by their first TSN, and how many chunks were sent first and again.
     pub(crate) filled: Filled,
 }
 
-/// No user data.
-#[inline(always)]
-pub(crate) fn filled_none(alloc: Global) -> Filled
-    ensures { FillsNone result }
-{
-    Filled {
-        tickets: Vec::new(alloc),
-        sendings: Sendings {
-            first: 0,
-            timed: 0,
-            missed: 0,
-        },
-    }
-}
-
-/// Fills what is left of a packet with user data; what has an index below `missed` was missed. It is the one place where user data goes out (RFC 9260,
-/// 6.1 and 7.2.4).
+/// Fills what is left of a packet with user data, of which it counts what was sent again as without a pace: `Traffic::indexes` has it. It is the one place
+/// where user data goes out (RFC 9260, 6.1).
 ///
 /// # Errors
 /// `NoMemory` if an allocation was refused; nothing of the traffic changed then.
 #[inline(always)]
 pub(crate) fn fill_rest(
     traffic: &mut Traffic,
-    missed: u64,
     writer: &mut PacketWriter,
 ) -> Result<Fragments, NoMemory>
     ensures filled { (e : EndView) (m : marks.Marks) (n : starts.Starts) → TrafficStands traffic.old (format_of e) e.sender e.receiver
-        → missed ≡ missed_below e.pace → room_in writer.old ≡ room_behind (drafted m e) writer.old.chunks → IsOwn e (record { writer = writer.old; marks = m })
+        → room_in writer.old ≡ room_behind (drafted m e) writer.old.chunks → IsOwn e (record { writer = writer.old; marks = m })
         → IfOk result (λ fragments. starts_at n ≡ with_fragments fragments.some (starts_at m.starts)
-        → FillsBehind e (record { writer = writer.old; marks = m }) (record { writer = writer.new; marks = record m { starts = n } }) traffic.new fragments.filled) }
+        → FillsBehind None e (record { writer = writer.old; marks = m }) (record { writer = writer.new; marks = record m { starts = n } }) traffic.new fragments.filled) }
     ensures step { (e : EndView) (m : marks.Marks) → TrafficStands traffic.old (format_of e) e.sender e.receiver
         → room_in writer.old ≡ room_behind (drafted m e) writer.old.chunks
         → OnOk result (TrafficStands traffic.new (format_of e) (filled_behind (drafted m e) writer.old.chunks).view e.receiver) }
     ensures some { (e : EndView) (m : marks.Marks) → TrafficStands traffic.old (format_of e) e.sender e.receiver
         → room_in writer.old ≡ room_behind (drafted m e) writer.old.chunks
         → IfOk result (λ fragments. fragments.some ≡ nat_lt 0 (length (filled_behind (drafted m e) writer.old.chunks).wishes)) }
+    ensures again { (e : EndView) (m : marks.Marks) → TrafficStands traffic.old (format_of e) e.sender e.receiver
+        → room_in writer.old ≡ room_behind (drafted m e) writer.old.chunks
+        → OnOk result (AreSentAgain e.sender (filled_behind (drafted m e) writer.old.chunks).wishes (indexes_of traffic.new)) }
     ensures memory { (f : Format) (s : SenderView) (r : ReceiverView) → TrafficStands traffic.old f s r → OnErr result (TrafficStands traffic.new f s r) }
 {
     let before = writer.room();
-    let filled = traffic.fill(missed, writer)?;
+    let filled = traffic.fill(writer)?;
     let some = writer.room() < before;
-    Ok(Fragments { some, filled })
+    Ok(Fragments {
+        some,
+        filled: Filled {
+            tickets: filled.tickets,
+            sendings: Sendings::of(filled.sendings),
+        },
+    })
 }
 
 /// Fills what is left after the control chunks with user data, as far as the pace allows, which starts the data timer. The time is that of the packet,
@@ -182,13 +189,13 @@ pub(crate) fn fill_behind(
     moment: u64,
     packing: &mut Packing,
 ) -> Result<Filled, NoMemory>
-    ensures filled { (e : EndView) → TrafficStands traffic.old (format_of e) e.sender e.receiver → pace.old ≡ e.pace → moment ≡ e.moment → IsOf e packing.old
-        → IfOk result (λ filled. FillsBehind e packing.old packing.new traffic.new filled) }
-    ensures paced { (e : EndView) → TrafficStands traffic.old (format_of e) e.sender e.receiver → pace.old ≡ e.pace → moment ≡ e.moment → IsOf e packing.old
-        → OnOk result (pace.new ≡ (sent (drafted packing.old.marks e) packing.old.writer.chunks).pace) }
+    ensures filled { (e : EndView) → TrafficStands traffic.old (format_of e) e.sender e.receiver → PacesStand (format_of e) e.sender.cum pace.old e.pace → moment ≡ e.moment → IsOf e packing.old
+        → IfOk result (λ filled. FillsBehind e.pace e packing.old packing.new traffic.new filled) }
+    ensures paced { (e : EndView) → TrafficStands traffic.old (format_of e) e.sender e.receiver → PacesStand (format_of e) e.sender.cum pace.old e.pace → moment ≡ e.moment → IsOf e packing.old
+        → OnOk result (PacesStand (format_of e) (filled_behind (drafted packing.old.marks e) packing.old.writer.chunks).view.cum pace.new
+        (sent (drafted packing.old.marks e) packing.old.writer.chunks).pace) }
     ensures memory { (f : Format) (s : SenderView) (r : ReceiverView) → TrafficStands traffic.old f s r → OnErr result (TrafficStands traffic.new f s r) }
-    ensures kept { OnErr result (pace.new ≡ pace.old) }
-    ensures unpaced { pace.old ≡ None → pace.new ≡ None }
+    ensures kept { (f : Format) (cum : ℕ) (o : Option Pace) → PacesStand f cum pace.old o → OnErr result (PacesStand f cum pace.new o) }
 {
     let fragments = fill_by(alloc, traffic, pace, moment, &mut packing.writer)?;
     start_fragments(&mut packing.marks.starts, fragments.some);

@@ -10,17 +10,17 @@ ghost use Rattle.sctp_model.specs.end.EndView.{EndView};
 ghost use Rattle.sctp_packet.specs.Draft.{packet_of};
 ghost use Rattle.sctp_packet.specs.PacketBytes.{WritesPacket};
 ghost use Rattle.sctp_association.specs.DueStands.{DueStands, info_bytes};
-ghost use Rattle.sctp_association.specs.Drafted.{value_left, causes_left, receiver_left, answers_left, delayed_left, due_left, drafted, IsFresh, IsEmpty};
+ghost use Rattle.sctp_association.specs.Drafted.{value_left, causes_left, receiver_left, answers_left, offered_left, delayed_left, due_left, drafted, IsFresh, IsEmpty};
 ghost use Rattle.sctp_association.specs.MachineStands.{MachineStands};
 
 use crate::build::Built;
+use crate::build::sendings::Filled;
 use crate::machine::Machine;
 use crate::state::carried::{HeartbeatInfo, WaitingCauses};
 use crate::state::due::Due;
 use crate::state::life::Life;
 use crate::time::starts::Starts;
 use sctp_packet::PacketWriter;
-use sctp_send::Filled;
 use std::alloc::Global;
 
 /// What a packet changes at its endpoint, besides sender and receiver: the chunks that are still due, and the timers that start.
@@ -142,7 +142,11 @@ impl Machine {
     /// If a SACK that was due went out, the duplicates that it reported are forgotten, and no SACK is delayed any more (RFC 9260, 6.2).
     pub(crate) fn when_sack_sent(&mut self, was_due: bool, is_due: bool)
         ensures { (v : EndView) → MachineStands self.old v
-            → MachineStands self.new (record v { delayed = delayed_left was_due is_due v.delayed; receiver = receiver_left was_due is_due v.receiver }) }
+            → MachineStands self.new (record v {
+              delayed = delayed_left was_due is_due v.delayed;
+              offered = offered_left was_due is_due v.receiver v.offered;
+              receiver = receiver_left was_due is_due v.receiver;
+            }) }
     {
         if !was_due {
             return;

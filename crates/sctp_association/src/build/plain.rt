@@ -1,34 +1,35 @@
 //! The fast path of most packets: while the association is open and nothing is due but a SACK, no other chunk that may be due is looked at (RFC 9260,
 //! 6.1, 6.2 and 6.10). SACK and user data go in by the same functions as in any other packet.
 
-ghost use Rattle.std.specs.Prelude.{◌≡◌, ◌≤◌, ℕ, [], true, false, None, length, IfOk, OnErr, IfSome, MatchOption};
+ghost use Rattle.std.specs.Prelude.{◌≡◌, ◌≤◌, ℕ, Option, [], true, false, length, IfOk, OnErr, IfSome, MatchOption};
 ghost use Rattle.sctp_model.specs.messages.Format.{Format};
 ghost use Rattle.sctp_model.specs.sender.SenderView.{SenderView};
 ghost use Rattle.sctp_model.specs.receiver.ReceiverView.{ReceiverView};
 ghost use Rattle.sctp_model.specs.wire.Packet.{size_of_packet};
 ghost use Rattle.sctp_model.specs.end.EndView.{EndView, format_of};
 ghost use Rattle.sctp_model.specs.end.EndView as model;
+ghost use Rattle.sctp_model.specs.end.Pacing.{Pace};
+ghost use Rattle.sctp_congestion.specs.PaceStands.{PacesStand};
 ghost use Rattle.sctp_packet.specs.Draft.{packet_of};
 ghost use Rattle.sctp_packet.specs.PacketBytes.{WritesPacket};
 ghost use Rattle.sctp_association.specs.DueStands.{DueStands};
 ghost use Rattle.sctp_association.specs.TrafficStands.{TrafficStands};
 ghost use Rattle.sctp_association.specs.MachineStands.{MachineStands};
-ghost use Rattle.sctp_association.specs.Drafted.{drafted, IsEmpty, IsPacked};
+ghost use Rattle.sctp_association.specs.Drafted.{drafted, IsEmpty, IsPacked, IsWhole};
 ghost use Rattle.sctp_association.specs.BuildAnswers.{BuildAnswer};
 ghost use Rattle.sctp_association.specs.PlainPacket.{IsPlain, IsCalm, plain_marks};
 ghost use Rattle.sctp_association.specs.declared.state.due.Due as kept;
 
 use crate::build::Built;
-use crate::build::filling::filled_none;
 use crate::build::pacing::fill_by;
 use crate::build::putting::put_due_sack;
+use crate::build::sendings::{Filled, filled_none};
 use crate::machine::Machine;
 use crate::state::due::Due;
 use crate::state::life::Life;
 use crate::traffic::Traffic;
 use sctp_congestion::Pacing;
 use sctp_packet::PacketWriter;
-use sctp_send::Filled;
 use sctp_values::NoMemory;
 use std::alloc::Global;
 
@@ -136,9 +137,9 @@ impl Machine {
     fn pack_plain(&mut self, moment: u64, writer: &mut PacketWriter) -> Result<Plain, NoMemory>
         ensures packed { (v : EndView) (t : model.Tags) (g : model.Stage) → MachineStands self.old v → v.phase ≡ model.Open t g → IsPlain self.old.due v.due → IsCalm v
             → IsEmpty (record v { moment = moment }) (record { writer = writer.old; marks = plain_marks self.old.due self.old.due.sack false })
-            → IfOk result (λ p. (s : SenderView)
-            × IsPacked (record v { moment = moment }) s self.new.pace (record { writer = writer.new; marks = plain_marks self.old.due p.sack p.fragments }) p.filled
-            × MachineStands self.new (record v { sender = s; pace = self.new.pace })) }
+            → IfOk result (λ p. (s : SenderView) × (o : Option Pace)
+            × IsPacked (record v { moment = moment }) s o (record { writer = writer.new; marks = plain_marks self.old.due p.sack p.fragments }) p.filled
+            × MachineStands self.new (record v { sender = s; pace = o })) }
         ensures memory { (v : EndView) → MachineStands self.old v → OnErr result (MachineStands self.new v) }
         ensures kept { self.new ≡ record self.old { life = self.new.life; pace = self.new.pace } }
     {
@@ -201,13 +202,11 @@ fn put_plain(
     sack: bool,
     writer: &mut PacketWriter,
 ) -> Result<Plain, NoMemory>
-    ensures packed { (e : EndView) (t : model.Tags) (g : model.Stage) (d : kept.Due) → e.phase ≡ model.Open t g → pace.old ≡ e.pace → moment ≡ e.moment → IsPlain d e.due → IsCalm e
+    ensures packed { (e : EndView) (t : model.Tags) (g : model.Stage) (d : kept.Due) → e.phase ≡ model.Open t g → PacesStand (format_of e) e.sender.cum pace.old e.pace → moment ≡ e.moment → IsPlain d e.due → IsCalm e
         → TrafficStands traffic.old (format_of e) e.sender e.receiver → IsEmpty e (record { writer = writer.old; marks = plain_marks d sack false })
-        → IfOk result (λ p. (s : SenderView) × IsPacked e s pace.new (record { writer = writer.new; marks = plain_marks d p.sack p.fragments }) p.filled
-        × TrafficStands traffic.new (format_of e) s e.receiver) }
+        → IfOk result (λ p. IsWhole e traffic.new pace.new (record { writer = writer.new; marks = plain_marks d p.sack p.fragments }) p.filled) }
     ensures memory { (f : Format) (s : SenderView) (r : ReceiverView) → TrafficStands traffic.old f s r → OnErr result (TrafficStands traffic.new f s r) }
-    ensures unchanged { OnErr result (pace.new ≡ pace.old) }
-    ensures unpaced { pace.old ≡ None → pace.new ≡ None }
+    ensures unchanged { (f : Format) (cum : ℕ) (o : Option Pace) → PacesStand f cum pace.old o → OnErr result (PacesStand f cum pace.new o) }
 {
     if !put_due_sack(traffic, sack, writer)? {
         return Ok(Plain {

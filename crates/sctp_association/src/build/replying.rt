@@ -2,7 +2,7 @@
 
 ghost use Rattle.std.specs.Prelude.{◌≡◌, [], ◌∷◌, true, Some, IfOk};
 ghost use Rattle.sctp_model.specs.end.EndView.{EndView};
-ghost use Rattle.sctp_model.specs.end.Building.{CookieAckSlot, HeartbeatSlot, ErrorSlot, has_causes};
+ghost use Rattle.sctp_model.specs.end.Building.{CookieAckSlot, HeartbeatSlot, BeatSlot, ErrorSlot, has_causes};
 ghost use Rattle.sctp_model.specs.end.Reports.{written};
 ghost use Rattle.sctp_association.specs.DueStands.{DueStands};
 ghost use Rattle.sctp_association.specs.Drafted.{PutsAt, IsOf};
@@ -13,13 +13,13 @@ use crate::state::due::Due;
 use sctp_values::NoMemory;
 use sctp_wire::{Causes, Chunk};
 
-/// COOKIE ACK, HEARTBEAT ACK and ERROR, as they are due. False if one of them is due and doesn't fit.
+/// COOKIE ACK, HEARTBEAT ACK and ERROR, as they are due; no HEARTBEAT is. False if one of them is due and doesn't fit.
 ///
 /// # Errors
 /// `NoMemory` if an allocation was refused.
 pub(crate) fn put_answers(due: &Due, packing: &mut Packing) -> Result<bool, NoMemory>
     ensures { (e : EndView) → DueStands due.now e.due → IsOf e packing.old
-        → IfOk result (λ room. PutsAt (CookieAckSlot ∷ HeartbeatSlot ∷ ErrorSlot ∷ []) e packing.old packing.new room) }
+        → IfOk result (λ room. PutsAt (CookieAckSlot ∷ HeartbeatSlot ∷ BeatSlot ∷ ErrorSlot ∷ []) e packing.old packing.new room) }
 {
     if !put_cookie_ack(packing)? {
         return Ok(false);

@@ -10,6 +10,7 @@ ghost use Rattle.sctp_model.specs.end.Closing.{with_due, answers_shutdown};
 ghost use Rattle.sctp_model.specs.end.Reports.{item};
 ghost use Rattle.sctp_model.specs.end.PeerFaults.{packet_to, abort_for};
 ghost use Rattle.sctp_model.specs.end.Acting.{heartbeat_heard};
+ghost use Rattle.sctp_model.specs.end.Beating.{beat_heard};
 ghost use Rattle.sctp_packet.specs.PacketBytes.{WritesPacket};
 ghost use Rattle.sctp_association.specs.MachineStands.{MachineStands};
 
@@ -37,6 +38,13 @@ impl Machine {
         let copied = HeartbeatInfo::copied(self.alloc, info)?;
         self.due.bring_back(copied);
         Ok(())
+    }
+
+    /// Processes a HEARTBEAT ACK. The endpoint sends no HEARTBEATs, so it answers none, and nothing changes (RFC 9260, 8.3).
+    pub fn hear_heartbeat_ack(&mut self, info: &[u8])
+        ensures { (v : EndView) → MachineStands self.old v → MachineStands self.new (beat_heard v info.now) }
+    {
+        let _info = info;
     }
 
     /// Closes the endpoint. The packet is an ABORT with this cause, of at most 4 bytes, under the peer's tag (RFC 9260, 9.1).

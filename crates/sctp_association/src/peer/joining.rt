@@ -2,14 +2,16 @@
 //! packets (RFC 9260, 5.1). Sender and receiver are created first, which alone may allocate; then the state changes.
 
 ghost use Rattle.std.specs.Prelude.{◌≡◌, ℕ, List, ◌<◌, ◌+◌, ◌^◌, length, IfOk, OnOk, OnErr};
+ghost use Rattle.sctp_model.specs.messages.Framing.{header_of};
 ghost use Rattle.sctp_model.specs.sender.SenderView.{fresh_sender};
 ghost use Rattle.sctp_model.specs.receiver.ReceiverView.{fresh_receiver};
-ghost use Rattle.sctp_model.specs.end.EndView.{EndView, format_for};
+ghost use Rattle.sctp_model.specs.end.EndView.{EndView, format_for, send_limits};
 ghost use Rattle.sctp_model.specs.end.EndView as model;
 ghost use Rattle.sctp_model.specs.end.Clock.{timers_in};
 ghost use Rattle.sctp_model.specs.end.Opening.{pace_for, begun, echoing, opened};
 ghost use Rattle.sctp_wire.specs.ChunkTree.{init_meaning};
 ghost use Rattle.sctp_cookie.specs.CookieTree.{content_meaning};
+ghost use Rattle.sctp_congestion.specs.PaceStands.{PacesStand};
 ghost use Rattle.sctp_association.specs.TimersMean.{timers_meaning};
 ghost use Rattle.sctp_association.specs.TrafficStands.{TrafficStands};
 ghost use Rattle.sctp_association.specs.MachineStands.{MachineStands};
@@ -25,6 +27,7 @@ use crate::time::timers::Timers;
 use crate::traffic::{Sizes, Traffic};
 use sctp_congestion::{Pacing, RoundTrip};
 use sctp_cookie::CookieContent;
+use sctp_framing::{DataFraming, Framing, IDataFraming};
 use sctp_opening::Terms;
 use sctp_terms::{Config, Draw};
 use sctp_values::FIRST_WAIT;
@@ -44,9 +47,11 @@ impl Machine {
     pub fn paired(alloc: Global, config: Config, own: Draw, peer: Draw) -> Result<Machine, NoMemory>
         ensures { IfOk result (λ m. MachineStands m (opened config own peer)) }
     {
+        // By the clause of `limit` its options are plain.
+        let _limit = config.limit();
         let terms = Terms::alike(&config, own, peer);
         let traffic = begun_for(alloc, &config, terms, config.buffer())?;
-        let pace = pace_for(&config, config.buffer());
+        let pace = pace_for(alloc, &config, terms.interleave, config.buffer());
         let tags = Tags {
             own: own.tag(),
             peer: peer.tag(),
@@ -92,7 +97,7 @@ impl Machine {
             traffic,
         };
         drop(replace(&mut self.life, Life::Joined(joined)));
-        self.pace = pace_for(&self.config, body.caller_rwnd);
+        self.pace = pace_for(self.alloc, &self.config, terms.interleave, body.caller_rwnd);
         self.due.begin();
         turn_timers(&mut self.timers, Stage::Established);
         self.measure(Some(RoundTrip::between(body.made, self.moment)), FIRST_WAIT);
@@ -127,7 +132,7 @@ impl Machine {
             traffic,
         };
         drop(replace(&mut self.life, Life::Joined(joined)));
-        self.pace = pace_for(&self.config, offer.rwnd);
+        self.pace = pace_for(self.alloc, &self.config, terms.interleave, offer.rwnd);
         self.due.echo(reported);
         echo_timers(&mut self.timers);
         Ok(())
@@ -142,9 +147,11 @@ fn begun_for(
     peer_rwnd: u32,
 ) -> Result<Traffic, NoMemory>
     ensures { IfOk result (λ t. TrafficStands t (format_for terms.interleave)
-        (fresh_sender terms.own_tsn terms.outbound config.now.fragment peer_rwnd terms.partial)
-        (fresh_receiver terms.peer_tsn terms.inbound config.now.buffer)) }
+        (fresh_sender terms.own_tsn terms.outbound config.now.fragment peer_rwnd terms.partial (send_limits config.now))
+        (fresh_receiver terms.peer_tsn terms.inbound config.now.buffer config.now.reserve)) }
 {
+    // By the clause of `limit` its options are plain.
+    let _limit = config.limit();
     let sizes = Sizes {
         fragment: config.fragment(),
         buffer: config.buffer(),
@@ -152,16 +159,33 @@ fn begun_for(
     Traffic::begun(alloc, terms, sizes, peer_rwnd)
 }
 
-/// The pace of a new association of this configuration, if it asks for fast retransmit (RFC 9260, 6.3.1 and 7.2). `peer_rwnd` is the window that the
+/// The pace of a new association of this configuration, in this format, if it asks for fast retransmit (RFC 9260, 6.3.1 and 7.2). `peer_rwnd` is the window that the
 /// peer advertised, in bytes.
-fn pace_for(config: &Config, peer_rwnd: u32) -> Option<Pacing>
-    ensures { result ≡ pace_for config.now peer_rwnd }
+fn pace_for(alloc: Global, config: &Config, interleave: bool, peer_rwnd: u32) -> Option<Pacing>
+    ensures { PacesStand (format_for interleave) 0 result (pace_for config.now (header_of (format_for interleave)) peer_rwnd) }
 {
     if !config.fast_retransmit() {
         return None;
     }
     let pmdcs = config.limit() - HEADER;
-    Some(Pacing::fresh(config.congestion_control(), pmdcs, peer_rwnd))
+    Some(Pacing::fresh(
+        alloc,
+        config.congestion_control(),
+        header_of(interleave),
+        pmdcs,
+        peer_rwnd,
+    ))
+}
+
+/// The bytes of a chunk with user data before its data: of an I-DATA, or of a DATA (RFC 9260, 3.3.1; RFC 8260, 2.1).
+fn header_of(interleave: bool) -> u16
+    ensures { result ≡ header_of (format_for interleave) }
+{
+    if interleave {
+        IDataFraming::header() as u16
+    } else {
+        DataFraming::header() as u16
+    }
 }
 
 /// The timers of a caller that echoes its cookie.

@@ -1,6 +1,7 @@
 //! The round trip of the handshake, which is the first measurement of a new association (RFC 9260, 6.3.1).
 
 ghost use Rattle.std.specs.Prelude.{◌≡◌, ℕ};
+ghost use Rattle.sctp_model.specs.numbers.Limits.{FIRST_WAIT};
 ghost use Rattle.sctp_model.specs.end.EndView.{EndView};
 ghost use Rattle.sctp_model.specs.end.Clock.{echo_trip, measured};
 ghost use Rattle.sctp_association.specs.TimersMean.{timer_meaning};
@@ -33,7 +34,7 @@ impl Timer {
     /// The round trip of a COOKIE ECHO by its timer, at this time: if it was sent once, and the timer runs, the time since that was started
     /// (RFC 9260, 6.3.1, C5).
     pub(crate) fn trip(self, now: u64) -> Option<RoundTrip>
-        ensures { result ≡ echo_trip now (timer_meaning self) }
+        ensures { result ≡ echo_trip FIRST_WAIT now (timer_meaning self) }
     {
         if self.repeats != 0 {
             return None;

@@ -129,14 +129,14 @@ impl Machine {
         }
     }
 
-    /// All outstanding user data is due again, and a FORWARD-TSN if it skips something; the pace notes the expiry.
+    /// All outstanding user data is due again, and a FORWARD-TSN if it skips something; before that the pace notes the expiry.
     fn repeat_fragments(&mut self)
         ensures { (v : EndView) → MachineStands self.old v → MachineStands self.new (due_again model.DataAlarm v) }
     {
         let past = self.is_point_past();
         self.due.owe_forward(past);
-        self.repeat();
         self.expire_pace();
+        self.repeat();
     }
 
     /// The request that waits is due again; if it is in progress, it takes the next sequence number (RFC 6525, 5.2.7).
@@ -157,13 +157,17 @@ impl Machine {
         }
     }
 
-    /// The data timer expired: nothing is timed, misses are counted anew, and the congestion window is one packet (RFC 9260, 6.3.3 and 7.2.3).
+    /// The data timer expired: nothing is timed, Fast Recovery is over, and the congestion window is one packet, unless all that is in flight probes a window
+    /// without space (RFC 9260, 6.1, 6.3.3 and 7.2.3). Call it before anything is marked for retransmission.
     fn expire_pace(&mut self)
-        ensures { (v : EndView) → MachineStands self.old v → MachineStands self.new (record v { pace = option_map expired_pace v.pace }) }
+        ensures { (v : EndView) → MachineStands self.old v → MachineStands self.new (record v { pace = option_map (expired_pace v.sender) v.pace }) }
     {
         match &mut self.pace {
             None => {}
-            Some(pace) => pace.expire(),
+            Some(pace) => match &self.life {
+                Life::Unjoined(_) => pace.expire(false),
+                Life::Joined(association) => pace.expire(association.traffic.is_probe()),
+            },
         }
     }
 

@@ -3,8 +3,9 @@
 
 ghost use Rattle.std.specs.Prelude.{◌≡◌, Bool, ◌<◌, ◌≤◌, ◌^◌, nat_lt, true};
 ghost use Rattle.sctp_model.specs.end.EndView.{unused_timer};
-ghost use Rattle.sctp_model.specs.end.Clock.{running, stopped, expired_timer, is_over_at, repeats_of, renewed, renewed_expiry, restarted};
-ghost use Rattle.sctp_association.specs.TimersMean.{alarm_meaning, timer_meaning, kept_if};
+ghost use Rattle.sctp_model.specs.numbers.Limits.{FIRST_WAIT, LONGEST_WAIT};
+ghost use Rattle.sctp_model.specs.end.Clock.{running, stopped, expired_timer, is_over_at, renewed, renewed_expiry, restarted};
+ghost use Rattle.sctp_association.specs.TimersMean.{timer_meaning, most_repeats, kept_if};
 ghost use Rattle.sctp_association.specs.StartsMean.{started_if};
 ghost use Rattle.sctp_association.specs.Weighing.{followed};
 
@@ -39,7 +40,7 @@ pub(crate) struct Timer {
 impl Timer {
     /// A timer that never ran.
     pub(crate) fn unused() -> Timer
-        ensures { timer_meaning result ≡ unused_timer }
+        ensures { timer_meaning result ≡ unused_timer FIRST_WAIT }
     {
         Timer {
             wait: FIRST_WAIT,
@@ -50,7 +51,7 @@ impl Timer {
 
     /// A timer that never ran, with this timeout, in milliseconds.
     pub(crate) fn waiting(wait: u64) -> Timer
-        ensures { timer_meaning result ≡ record unused_timer { wait = wait } }
+        ensures { timer_meaning result ≡ unused_timer wait }
     {
         Timer {
             wait,
@@ -105,7 +106,7 @@ impl Timer {
     /// The timer after an expiry: counted, stopped, with twice the timeout, at most 60 seconds (RFC 9260, 6.3.3).
     pub(crate) fn expired(self) -> Timer
         requires { self.repeats < 2 ^ 8 }
-        ensures { timer_meaning result ≡ expired_timer (timer_meaning self) }
+        ensures { timer_meaning result ≡ expired_timer LONGEST_WAIT (timer_meaning self) }
     {
         Timer {
             wait: self.wait.saturating_mul(2).min(LONGEST_WAIT),
@@ -145,7 +146,7 @@ impl Timer {
         flies: bool,
     ) -> Timer
         ensures { (moved : Bool) → (moved ≡ true → restarts ≡ true)
-            → timer_meaning result ≡ followed now rto restarts flies (renewed now moved (kept_if wanted (timer_meaning self))) }
+            → timer_meaning result ≡ followed now rto restarts flies (renewed FIRST_WAIT now moved (kept_if wanted (timer_meaning self))) }
     {
         Timer {
             repeats: 0,
@@ -162,15 +163,15 @@ impl Timer {
 
     /// Its packet may be repeated once more: the limit of retransmissions isn't reached.
     pub(crate) fn can_repeat(self, alarm: Alarm) -> bool
-        ensures answer { result ≡ nat_lt self.repeats (repeats_of (alarm_meaning alarm)) }
+        ensures answer { result ≡ nat_lt self.repeats (most_repeats alarm) }
         ensures few { result ≡ true → self.repeats < 2 ^ 8 }
     {
-        self.repeats < repeats_of(alarm)
+        self.repeats < most_repeats(alarm)
     }
 
     /// The timer after an answer: its count is 0; if the answer acknowledged something new, timeout and expiry begin anew, too (RFC 9260, 6.3.2).
     pub(crate) fn renewed(self, now: u64, moved: bool) -> Timer
-        ensures { timer_meaning result ≡ renewed now moved (timer_meaning self) }
+        ensures { timer_meaning result ≡ renewed FIRST_WAIT now moved (timer_meaning self) }
     {
         if !moved {
             return Timer { repeats: 0, ..self };
@@ -212,7 +213,7 @@ pub(crate) fn is_over_at(set: Option<u64>, now: u64) -> bool
 
 /// The initial timeout from this time on, if a timer runs.
 fn expiry_after(now: u64, expiry: Option<u64>) -> Option<u64>
-    ensures { result ≡ renewed_expiry now expiry }
+    ensures { result ≡ renewed_expiry FIRST_WAIT now expiry }
 {
     match expiry {
         Some(_) => Some(now.saturating_add(FIRST_WAIT)),
@@ -221,8 +222,8 @@ fn expiry_after(now: u64, expiry: Option<u64>) -> Option<u64>
 }
 
 /// How often a timer's packet is repeated before the association is given up (Max.Init.Retransmits and Association.Max.Retrans of RFC 9260, 16).
-fn repeats_of(alarm: Alarm) -> u32
-    ensures exact { result ≡ repeats_of (alarm_meaning alarm) }
+fn most_repeats(alarm: Alarm) -> u32
+    ensures exact { result ≡ most_repeats alarm }
     ensures few { result ≤ 10 }
 {
     match alarm {

@@ -1,12 +1,13 @@
 //! The six timers of an endpoint: which start and stop together, and which expires first (RFC 9260, 6.3 and 9.2).
 
 ghost use Rattle.std.specs.Prelude.{◌≡◌, Bool, true};
+ghost use Rattle.sctp_model.specs.numbers.Limits.{FIRST_WAIT};
 ghost use Rattle.sctp_model.specs.end.EndView as model;
 ghost use Rattle.sctp_model.specs.end.EndView.{unused_timer};
 ghost use Rattle.sctp_model.specs.end.Clock.{stopped, renewed, replaced};
 ghost use Rattle.sctp_model.specs.end.Moments.{earlier, earliest, all_alarms};
 ghost use Rattle.sctp_association.specs.TimersMean.{alarm_meaning, timer_meaning, timers_meaning, kept_if, open_timers, resting};
-ghost use Rattle.sctp_association.specs.StartsMean.{starts_at, started_from};
+ghost use Rattle.sctp_association.specs.StartsMean.{starts_at, started_if, started_from};
 ghost use Rattle.sctp_association.specs.PlainPacket.{fragments_alone};
 ghost use Rattle.sctp_association.specs.Weighing.{followed};
 
@@ -40,7 +41,7 @@ pub(crate) struct Timers {
 impl Timers {
     /// Timers that never ran.
     pub(crate) fn unused() -> Timers
-        ensures { timers_meaning result ≡ (λ a. unused_timer) }
+        ensures { timers_meaning result ≡ (λ a. unused_timer FIRST_WAIT) }
     {
         Timers {
             init: Timer::unused(),
@@ -94,7 +95,8 @@ impl Timers {
 
     /// Starts the data timer at this time if it is to start and doesn't run.
     pub(crate) fn start_fragments(&mut self, starts: bool, now: u64)
-        ensures { timers_meaning self.new ≡ started_from (starts_at (fragments_alone starts)) now (timers_meaning self.old) }
+        ensures started { timers_meaning self.new ≡ started_from (starts_at (fragments_alone starts)) now (timers_meaning self.old) }
+        ensures put { timers_meaning self.new ≡ replaced model.DataAlarm (started_if starts now (timers_meaning self.old model.DataAlarm)) (timers_meaning self.old) }
     {
         self.fragments.start_if(starts, now);
     }
@@ -130,19 +132,21 @@ impl Timers {
         flies: bool,
     )
         ensures { (moved : Bool) → (moved ≡ true → restarts ≡ true)
-            → timers_meaning self.new ≡ replaced model.DataAlarm (followed now rto restarts flies (renewed now moved (kept_if wanted (timers_meaning self.old model.DataAlarm)))) (timers_meaning self.old) }
+            → timers_meaning self.new ≡ replaced model.DataAlarm (followed now rto restarts flies (renewed FIRST_WAIT now moved (kept_if wanted (timers_meaning self.old model.DataAlarm)))) (timers_meaning self.old) }
     {
         let timer = self.fragments.heard(wanted, now, rto, restarts, flies);
         self.put(Alarm::Fragments, timer);
     }
 
-    /// The data timer after a SACK: it stops unless it is wanted, and counts its retransmissions anew; if something new was acknowledged, its timeout
-    /// begins anew at this time, too (RFC 9260, 6.3.2).
+    /// The data timer after a SACK, without a pace: it stops unless it is wanted, and counts its retransmissions anew; if something new was acknowledged, its
+    /// timeout begins anew at this time, too; and it starts, if it doesn't run and user data is in flight, which an earlier SACK had acknowledged (RFC 9260,
+    /// 6.3.2).
     #[inline(always)]
-    pub(crate) fn count(&mut self, wanted: bool, moved: bool, now: u64)
-        ensures { timers_meaning self.new ≡ replaced model.DataAlarm (renewed now moved (kept_if wanted (timers_meaning self.old model.DataAlarm))) (timers_meaning self.old) }
+    pub(crate) fn count(&mut self, wanted: bool, moved: bool, flies: bool, now: u64)
+        ensures { timers_meaning self.new ≡ replaced model.DataAlarm (started_if flies now (renewed FIRST_WAIT now moved (kept_if wanted (timers_meaning self.old model.DataAlarm)))) (timers_meaning self.old) }
     {
-        let timer = self.fragments.kept_if(wanted).renewed(now, moved);
+        let mut timer = self.fragments.kept_if(wanted).renewed(now, moved);
+        timer.start_if(flies, now);
         self.put(Alarm::Fragments, timer);
     }
 

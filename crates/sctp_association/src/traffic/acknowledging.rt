@@ -8,7 +8,7 @@ ghost use Rattle.sctp_model.specs.sender.SackTaken.{sack_fault, sack_after, shut
 ghost use Rattle.sctp_wire.specs.ChunkTree.{sack_meaning};
 ghost use Rattle.sctp_send.specs.SenderStands.{StandsFor};
 ghost use Rattle.sctp_send.specs.SenderAnswers.{reason_meaning};
-ghost use Rattle.sctp_association.specs.TrafficStands.{TrafficStands};
+ghost use Rattle.sctp_association.specs.TrafficStands.{TrafficStands, indexes_of};
 ghost use Rattle.sctp_association.specs.SackLeaves.{fault_of, IsLeft};
 
 use crate::traffic::Traffic;
@@ -25,6 +25,8 @@ pub(crate) struct Acknowledged {
     pub(crate) wanted: bool,
     /// A FORWARD-TSN would skip something (RFC 3758, 3.5).
     pub(crate) past: bool,
+    /// User data is in flight.
+    pub(crate) flies: bool,
 }
 
 impl Traffic {
@@ -37,6 +39,7 @@ impl Traffic {
         ensures answer { (f : Format) (s : SenderView) (r : ReceiverView) → TrafficStands self.old f s r → fault_of result ≡ sack_fault s (sack_meaning sack.now) }
         ensures step { (f : Format) (s : SenderView) (r : ReceiverView) → TrafficStands self.old f s r → TrafficStands self.new f (sack_after s (sack_meaning sack.now)) r }
         ensures left { (f : Format) (s : SenderView) (r : ReceiverView) → TrafficStands self.old f s r → IfOk result (IsLeft s (sack_after s (sack_meaning sack.now))) }
+        ensures kept { indexes_of self.new ≡ indexes_of self.old }
     {
         match self {
             Traffic::Plain(directions) => take_sack(&mut directions.sender, sack),
@@ -77,6 +80,7 @@ fn take_sack<F: Framing>(sender: &mut Sender<F>, sack: &Sack<'_>) -> Result<Ackn
                 moved: before < cum,
                 wanted: sender.unsettled(),
                 past: cum < sender.point(),
+                flies: 0 < sender.in_flight(),
             })
         }
         Err(fault) => Err(fault),

@@ -1,6 +1,7 @@
 //! The receiver of an association, in either format (RFC 9260, 6.2; RFC 3758, 3.6; RFC 8260, 2.2.3).
 
 ghost use Rattle.std.specs.Prelude.{◌≡◌, ℕ, ◌≤◌, Some, None, option_map, slice_get, IfOk, OnErr, MatchOption};
+ghost use Rattle.sctp_model.specs.numbers.Limits.{BLOCK_LIMIT};
 ghost use Rattle.sctp_model.specs.numbers.Serial.{tsn};
 ghost use Rattle.sctp_model.specs.wire.Chunk.{Sack};
 ghost use Rattle.sctp_model.specs.messages.Format.{Format};
@@ -57,7 +58,7 @@ impl Traffic {
     /// `NoMemory` if an allocation was refused.
     #[inline(always)]
     pub(crate) fn sack(&self) -> Result<SackLists, NoMemory>
-        ensures sack { (f : Format) (s : SenderView) (r : ReceiverView) → TrafficStands self.now f s r → IfOk result (λ l. IsSack r (lists_meaning l)) }
+        ensures sack { (f : Format) (s : SenderView) (r : ReceiverView) → TrafficStands self.now f s r → IfOk result (λ l. IsSack BLOCK_LIMIT r (lists_meaning l)) }
         ensures fits { IfOk result (λ l. Fits (Sack (lists_meaning l))) }
     {
         match self {
@@ -69,7 +70,7 @@ impl Traffic {
     /// The contents of a SACK at this point, if it has no lists: None if and only if it has. Nothing changes.
     #[inline(always)]
     pub(crate) fn plain_sack(&self) -> Option<PlainSack>
-        ensures { (f : Format) (s : SenderView) (r : ReceiverView) → TrafficStands self.now f s r → MatchOption result (TellsLists r) (λ p. IsSack r (plain_meaning p)) }
+        ensures { (f : Format) (s : SenderView) (r : ReceiverView) → TrafficStands self.now f s r → MatchOption result (TellsLists r) (λ p. IsSack BLOCK_LIMIT r (plain_meaning p)) }
     {
         match self {
             Traffic::Plain(directions) => directions.receiver.plain_sack(),

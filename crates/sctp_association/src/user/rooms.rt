@@ -1,12 +1,16 @@
 //! Buffers that the user hands back, to be used again in place of new memory. No view and no answer of an endpoint depends on them.
 
-ghost use Rattle.std.specs.Prelude.{◌≡◌, ◌≤◌, [], vec_capacity, IfSome};
+ghost use Rattle.std.specs.Prelude.{◌≡◌, ◌≤◌, ℕ, [], Option, vec_capacity, IfSome};
+ghost use Rattle.sctp_model.specs.messages.Format.{Format};
+ghost use Rattle.sctp_model.specs.end.Pacing.{Pace};
 ghost use Rattle.sctp_model.specs.end.EndView.{EndView};
+ghost use Rattle.sctp_congestion.specs.PaceStands.{PacesStand};
 ghost use Rattle.sctp_association.specs.MachineStands.{MachineStands};
 ghost use Rattle.sctp_association.specs.KeptRoom.{kept_capacity, kept_of};
 
 use crate::machine::Machine;
 use crate::state::life::Life;
+use sctp_congestion::Pacing;
 use sctp_recv::Message;
 use sctp_values::Ticket;
 use std::mem::replace;
@@ -67,10 +71,11 @@ impl Machine {
         }
     }
 
-    /// Gives back memory that a burst of messages took: see `sctp_send::Sender::trim` and `sctp_recv::Receiver::trim`.
+    /// Gives back memory that a burst of messages took: see `sctp_send::Sender::trim`, `sctp_recv::Receiver::trim` and `sctp_congestion::Pacing::trim`.
     pub fn trim(&mut self)
         ensures { (v : EndView) → MachineStands self.old v → MachineStands self.new v }
     {
+        trim_pace(&mut self.pace);
         match &mut self.life {
             Life::Unjoined(_) => {}
             Life::Joined(association) => {
@@ -86,5 +91,15 @@ impl Machine {
         ensures due { self.new.due ≡ self.old.due }
     {
         replace(&mut self.room, Vec::new(self.alloc))
+    }
+}
+
+/// Gives back memory of a pace.
+fn trim_pace(pace: &mut Option<Pacing>)
+    ensures { (f : Format) (cum : ℕ) (o : Option Pace) → PacesStand f cum pace.old o → PacesStand f cum pace.new o }
+{
+    match pace {
+        None => {}
+        Some(pace) => pace.trim(),
     }
 }

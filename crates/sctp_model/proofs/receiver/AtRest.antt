@@ -22,8 +22,8 @@ use Rattle.sctp_model.specs.receiver.Incoming.{Incoming}
 
 -- ---- a new receiver
 
-pub fresh_at_rest : (f : Format) (initial streams buffer : ℕ) → IsAtRest f (fresh_receiver initial streams buffer)
-fresh_at_rest f initial streams buffer = record {
+pub fresh_at_rest : (f : Format) (initial streams buffer reserve : ℕ) → IsAtRest f (fresh_receiver initial streams buffer reserve)
+fresh_at_rest f initial streams buffer reserve = record {
   ordinary = record { apart = λ x y here there place. absurd here; recorded = λ y there. absurd there };
   idle = record {
     ordered = λ s. record { passed = omega arith; none = λ xs whole. nothing (ordered_lane s) 0 xs whole };

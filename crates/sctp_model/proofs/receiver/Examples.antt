@@ -12,7 +12,7 @@ use Rattle.sctp_model.specs.receiver.ForwardTaken.{forward_answer, skips_read, O
 
 -- the first TSN is 4,294,967,295, there are two streams and three bytes of buffer, and each stream waits for number 65,534
 abbrev view : ReceiverView
-view = record (fresh_receiver 4294967295 2 3) { next = λ s. 65534 }
+view = record (fresh_receiver 4294967295 2 3 0) { next = λ s. 65534 }
 
 abbrev chunk : ℕ → ℕ → ℕ → List ℕ → PieceMeaning
 chunk tsn stream number bytes = record {
@@ -135,5 +135,5 @@ larger_counts = refl
 two_count : skips_read Plain view (entry 1 2 ∷ entry 1 0 ∷ entry 1 65533 ∷ []) ≡ record { lane = ordered_lane 1; number = 65538 } ∷ record { lane = ordered_lane 1; number = 65536 } ∷ []
 two_count = refl
 
-none_is_near : skips_read Interleaved (fresh_receiver 1 1 3) (entry 0 2147483648 ∷ []) ≡ []
+none_is_near : skips_read Interleaved (fresh_receiver 1 1 3 0) (entry 0 2147483648 ∷ []) ≡ []
 none_is_near = refl

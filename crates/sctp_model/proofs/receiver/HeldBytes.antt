@@ -120,7 +120,7 @@ taken_fits f r c p is =
     let second = row_fails (is_ahead r c p.tsn) Ahead _ Kept first.1 (λ e. cc) in
     let third = row_fails (nat_le r.streams p.stream) NoSuchStream _ Kept second.1 (λ e. cc) in
     let fourth = row_fails (is_passed f r (piece_at f r c p)) Passed _ Kept third.1 (λ e. cc) in
-    let fifth = row_fails (is_too_much r p) NoRoom Kept Kept fourth.1 (λ e. cc) in
+    let fifth = row_fails (is_too_much f r c p) NoRoom Kept Kept fourth.1 (λ e. cc) in
     let room = fifth.0 in
     grind (arith, room, nat_tests)
 
@@ -153,8 +153,8 @@ take_fits r s (Some h) t fits (rest, waits, is) = subst FitsBuffer (sym is) (les
         omega (arith, sum, own, fits)
     less (inr past) = let same = elsewhere r.waiting s rest r.streams past in omega (arith, same, fits)
 
-pub fresh_fits : (initial streams buffer : ℕ) → FitsBuffer (fresh_receiver initial streams buffer)
-fresh_fits initial streams buffer = let none = nothing streams in omega (arith, none)
+pub fresh_fits : (initial streams buffer reserve : ℕ) → FitsBuffer (fresh_receiver initial streams buffer reserve)
+fresh_fits initial streams buffer reserve = let none = nothing streams in omega (arith, none)
   where
     nothing : (n : ℕ) → size_of_waiting (λ s. []) n ≡ 0
     nothing zero = refl

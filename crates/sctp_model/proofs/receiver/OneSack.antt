@@ -15,8 +15,8 @@ pub runs_only : (r : ReceiverView) (c : ℕ) (bs ds : List BlockMeaning) → Are
 runs_only r c bs ds p q =
     one_order _ bs ds (strict r c bs p) (strict r c ds q) p.rising q.rising (λ b here. q.all b (p.runs b here)) (λ b here. p.all b (q.runs b here))
 
-pub sack_only : (r : ReceiverView) (s t : SackMeaning) → IsSack r s → IsSack r t → s ≡ t
-sack_only r s t p q = p.is ∙ (λ i. sack_of r (index i) (runs i)) ∙ sym q.is
+pub sack_only : (most : ℕ) (r : ReceiverView) (s t : SackMeaning) → IsSack most r s → IsSack most r t → s ≡ t
+sack_only most r s t p q = p.is ∙ (λ i. sack_of most r (index i) (runs i)) ∙ sym q.is
   where
     index : p.c ≡ q.c
     index = cumulative_only r p.c q.c p.cumulative q.cumulative

@@ -1,15 +1,14 @@
 -- If `abandon` answers that the message isn't given up, it changes nothing; and a message is abandoned only if partial reliability was agreed on (RFC 3758,
 -- 3.5).
-use Rattle.std.proofs.Common.{◌≡◌, ℕ, ◌<◌, ◌≤◌, List, [], ◌∷◌, Bool, true, false, Option, Some, None, refl, sym, ap, ◌∙◌, subst, arith}
-use Rattle.std.specs.Prelude.{not, ◌&&◌, ◌||◌, nat_lt, nat_le, if◌then◌else◌, unwrap_or, option_map}
+use Rattle.std.proofs.Common.{◌≡◌, ℕ, List, [], ◌∷◌, Bool, true, false, Option, Some, None, refl, sym, ap, ◌∙◌, arith}
+use Rattle.std.specs.Prelude.{not, ◌&&◌, nat_lt, nat_le, if◌then◌else◌, unwrap_or, option_map}
 use Rattle.std.specs.Option.{option_map_or}
 use Rattle.std.proofs.lemmas.Bool.Decides.{nat_tests}
 use Rattle.sctp_model.specs.messages.Format.{Format, Lane}
 use Rattle.sctp_model.specs.sender.SenderView.{Queued, SenderView}
 use Rattle.sctp_model.specs.sender.Words.{when, first_there}
-use Rattle.sctp_model.specs.sender.Abandoning.{Name, name_of, waits, without, is_abandoned, is_covered, AbandonAnswer, Withdrawn, Abandoned, Acknowledged, Reliable, Unknown, numbered_answer, abandon_answer, with_abandoned, abandon_named, abandon_after, gives_up}
+use Rattle.sctp_model.specs.sender.Abandoning.{Name, name_of, waits, without, is_abandoned, is_covered, Withdrawn, Abandoned, Acknowledged, Reliable, Unknown, numbered_answer, abandon_answer, with_abandoned, abandon_named, abandon_after, gives_up}
 use Rattle.sctp_model.specs.sender.Reached.{IsReached, Begins, Queues, Goes, Covers, Closes, Abandons, Repeats, Rebases}
-use Rattle.sctp_model.specs.sender.Filling.{standing, gone}
 use Rattle.sctp_model.proofs.sender.AbandonCases.{without_none, may_be_given}
 use Rattle.sctp_model.proofs.sender.TicketLaws.{IsTicketed, is_ticketed}
 use Rattle.sctp_model.proofs.sender.WishCases.{IsAssigned, Whole, Begun, Continued, after_wish}
@@ -68,7 +67,7 @@ by_assigned f v u same (Begun s q lt on first) = same
 by_assigned f v u same (Continued s e lt on) = same
 
 pub abandoned_is_agreed : (f : Format) (v : SenderView) → IsReached f v → (l : Lane) (n : ℕ) → v.abandoned l n ≡ true → v.partial ≡ true
-abandoned_is_agreed f _ (Begins i s b r p large) = λ l n on. absurd (cc)
+abandoned_is_agreed f _ (Begins i s b r p most large) = λ l n on. absurd (cc)
 abandoned_is_agreed f _ (Queues v l p b u n h free) = abandoned_is_agreed f v h
 abandoned_is_agreed f _ (Goes v room w h next may) = after_wish IsAgreedOn f v w (abandoned_is_agreed f v h) (λ u a. by_assigned f v u (abandoned_is_agreed f v h) a) (λ u i same. same) next
 abandoned_is_agreed f _ (Covers v x h none) = abandoned_is_agreed f v h

@@ -229,7 +229,7 @@ bounded_given v n h =
     }
 
 pub is_bounded : (f : Format) (v : SenderView) → IsReached f v → IsBounded v
-is_bounded f _ (Begins i s b r p large) =
+is_bounded f _ (Begins i s b r p most large) =
     record { within = omega arith; covered = λ j lo hi. absurd (omega arith); apart = λ j on. refl; unsent = λ j lt. refl; uncovered = λ j lt. refl; unmarked = λ j lt. refl }
 is_bounded f _ (Queues v l p b u n h free) =
     let k = is_bounded f v h in

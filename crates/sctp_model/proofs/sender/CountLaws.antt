@@ -64,7 +64,7 @@ abbrev pub HasMessages : SenderView → Type 0
 HasMessages v = AllNamed v.streams v.plan v.plan.entries
 
 pub is_named : (f : Format) (v : SenderView) → IsReached f v → HasMessages v
-is_named f _ (Begins i s b r p large) = tt
+is_named f _ (Begins i s b r p most large) = tt
 is_named f _ (Queues v l p b u n h free) = is_named f v h
 is_named f _ (Goes v room w h next may) =
     after_wish HasMessages f v w (is_named f v h) (λ u a. named_assigned f v u (is_filled f v h) (is_named f v h) a) (λ u i k. k) next
@@ -106,7 +106,7 @@ knows_given v n h low l k on =
     ])
 
 pub knows_abandoned : (f : Format) (v : SenderView) → IsReached f v → KnowsAbandoned v
-knows_abandoned f _ (Begins i s b r p large) = λ l n on. absurd (cc)
+knows_abandoned f _ (Begins i s b r p most large) = λ l n on. absurd (cc)
 knows_abandoned f _ (Queues v l p b u n h free) = knows_abandoned f v h
 knows_abandoned f _ (Goes v room w h next may) = after_wish KnowsAbandoned f v w (knows_abandoned f v h) (λ u a. knows_assigned f v u (knows_abandoned f v h) a) (λ u i k. k) next
 knows_abandoned f _ (Covers v x h none) = knows_abandoned f v h

@@ -62,7 +62,7 @@ ends_given v n h l k = after_end (λ (p : Plan). Has p.entries (End l k) → (wi
         ]
 
 pub are_ends_given : (f : Format) (v : SenderView) → IsReached f v → AreEndsGiven v
-are_ends_given f _ (Begins i s b r p large) = λ l n has. absurd has
+are_ends_given f _ (Begins i s b r p most large) = λ l n has. absurd has
 are_ends_given f _ (Queues v l p b u n h free) = are_ends_given f v h
 are_ends_given f _ (Goes v room w h next may) =
     let k = are_ends_given f v h in

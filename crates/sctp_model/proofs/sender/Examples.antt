@@ -15,7 +15,7 @@ use Rattle.sctp_model.specs.sender.Forwarding.{forward_to}
 
 -- two streams, fragments of 4 bytes, first TSN 4294967295, a window of 100 bytes
 abbrev fresh : SenderView
-fresh = fresh_sender 4294967295 2 4 100 true
+fresh = fresh_sender 4294967295 2 4 100 true (record { message = 65536; queue = None })
 
 -- three fragments on stream 0, then two on stream 1, worthless from time 500
 abbrev two : SenderView

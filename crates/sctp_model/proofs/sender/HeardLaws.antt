@@ -3,7 +3,7 @@ use Rattle.std.proofs.Common.{◌≡◌, ℕ, ◌-◌, Bool, List, Option, None,
 use Rattle.std.specs.Prelude.{option_map}
 use Rattle.sctp_model.specs.wire.Chunk.{ChunkMeaning}
 use Rattle.sctp_model.specs.wire.Packet.{size_of_packet}
-use Rattle.sctp_model.specs.end.EndView.{DataAlarm, Timer, EndView}
+use Rattle.sctp_model.specs.end.EndView.{waits_of, DataAlarm, Timer, EndView}
 use Rattle.sctp_model.specs.end.Building.{room_behind}
 use Rattle.sctp_model.specs.messages.Format.{Format}
 use Rattle.sctp_model.specs.sender.SenderView.{SenderView}
@@ -26,12 +26,12 @@ heard_tickets o now v u = heard_cases (λ x. x.tickets ≡ u.tickets) o now v u 
 pub heard_reached : (f : Format) (o : Option Pace) (now : ℕ) (v u : SenderView) → IsReached f u → IsReached f (sender_heard o now v u)
 heard_reached f o now v u h = heard_cases (IsReached f) o now v u h (λ test. Repeats u test h)
 
--- an endpoint without a pace does as it did: nothing is marked, and the timer is as it is set
-pub unpaced : (v : SenderView) (wait : ℕ) (t : Timer) (e : EndView) → e.pace ≡ None → paced v wait t e ≡ with_timer DataAlarm t e
-unpaced v wait t e none = (λ i. record (with_timer DataAlarm (timer_heard (none i) e.moment e.configuration.least_wait wait v e.sender t) e) {
+-- an endpoint without a pace marks nothing, and its timer is as it is set, but starts if data is in flight
+pub unpaced : (v : SenderView) (wait : ℕ) (t : Timer) (e : EndView) → e.pace ≡ None → paced v wait t e ≡ with_timer DataAlarm (timer_heard None e.moment (waits_of e.configuration) wait v e.sender t) e
+unpaced v wait t e none = (λ i. record (with_timer DataAlarm (timer_heard (none i) e.moment (waits_of e.configuration) wait v e.sender t) e) {
   sender = sender_heard (none i) e.moment v e.sender;
   pace = option_map (λ p. (heard e.moment v e.sender p).pace) (none i);
-}) ∙ (λ i. record (with_timer DataAlarm t e) { pace = sym none i })
+}) ∙ (λ i. record (with_timer DataAlarm (timer_heard None e.moment (waits_of e.configuration) wait v e.sender t) e) { pace = sym none i })
 
 -- and its fragments have what a packet leaves
 pub unpaced_room : (e : EndView) (xs : List ChunkMeaning) → e.pace ≡ None → room_behind e xs ≡ e.configuration.limit - size_of_packet xs

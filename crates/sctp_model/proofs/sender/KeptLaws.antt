@@ -91,7 +91,7 @@ kept_given v n named h s e = after_end (λ (p : Plan). continued p s ≡ Some e 
             other (λ same. apart (sym (ap (λ (l : Lane). l.stream) (sym same.0) ∙ on_its_stream before))) before
 
 pub are_parts_kept : (f : Format) (v : SenderView) → IsReached f v → ArePartsKept v
-are_parts_kept f _ (Begins i s b r p large) = λ t e is. absurd (cc)
+are_parts_kept f _ (Begins i s b r p most large) = λ t e is. absurd (cc)
 are_parts_kept f _ (Queues v l p b u n h free) = are_parts_kept f v h
 are_parts_kept f _ (Goes v room w h next may) = let k = are_parts_kept f v h in after_wish ArePartsKept f v w k (λ u a. kept_assigned f v u h k a) (λ u i x. x) next
 are_parts_kept f _ (Covers v x h none) = are_parts_kept f v h

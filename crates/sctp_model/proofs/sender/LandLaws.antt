@@ -27,7 +27,7 @@ lands g i (e ∷ es) none =
     omega (arith, here, rest)
 
 -- one sum is 0 if another is, if its summands are
-lands_as : (g h : ℕ → Entry → ℕ) (i : ℕ) (es : List Entry) → ((k : ℕ) (e : Entry) → slice_get es k ≡ Some e → g (i + k) e ≡ 0 → h (i + k) e ≡ 0)
+pub lands_as : (g h : ℕ → Entry → ℕ) (i : ℕ) (es : List Entry) → ((k : ℕ) (e : Entry) → slice_get es k ≡ Some e → g (i + k) e ≡ 0 → h (i + k) e ≡ 0)
     → sum_from g i es ≡ 0 → sum_from h i es ≡ 0
 lands_as g h i [] goes none = refl
 lands_as g h i (e ∷ es) goes none =

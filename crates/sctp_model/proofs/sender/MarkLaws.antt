@@ -136,7 +136,7 @@ marked_timed v test h = record { sent = λ i on. (by_mark i (v.marked i) refl on
         (parts.0, λ e here. let same : there.0 ≡ e = cc in subst (λ (x : Entry). is_of_abandoned v x ≡ false) same (lost (is_of_abandoned v there.0) wanted.1))
 
 pub is_marked_well : (f : Format) (v : SenderView) → IsReached f v → IsMarkedWell v
-is_marked_well f _ (Begins i s b r p large) = record { sent = λ j on. absurd (cc); kept = λ j e on here. absurd (cc) }
+is_marked_well f _ (Begins i s b r p most large) = record { sent = λ j on. absurd (cc); kept = λ j e on here. absurd (cc) }
 is_marked_well f _ (Queues v l p b u n h free) = let k = is_marked_well f v h in record { sent = k.sent; kept = k.kept }
 is_marked_well f _ (Goes v room w h next may) =
     let k = is_marked_well f v h in

@@ -213,7 +213,7 @@ promised_assigned _ v _ full h (Continued s e lt on) =
             last x some = omega arith
 
 pub is_promised : (f : Format) (v : SenderView) → IsReached f v → IsPromised v
-is_promised f _ (Begins i s b r p large) = let none = sum-zero (λ j. owed_at (record { messages = λ l. []; entries = [] }) j) s (λ j. refl) in omega (arith, none)
+is_promised f _ (Begins i s b r p most large) = let none = sum-zero (λ j. owed_at (record { messages = λ l. []; entries = [] }) j) s (λ j. refl) in omega (arith, none)
 is_promised f _ (Queues v l p b u n h free) =
     let a = accepted v l.stream b free in
     let k = is_promised f v h in

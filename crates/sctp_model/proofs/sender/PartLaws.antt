@@ -90,7 +90,7 @@ windowed_wish f room w may =
     le_of n c p is = let le : n - c + p ≤ WINDOW = grind (arith, nat_tests) in omega arith
 
 pub is_windowed : (f : Format) (v : SenderView) → IsReached f v → IsWindowed v
-is_windowed f _ (Begins i s b r p large) = let none = sum-zero (λ j. one_if_some (continued (record { messages = λ l. []; entries = [] }) j)) s (λ j. refl) in omega (arith, none)
+is_windowed f _ (Begins i s b r p most large) = let none = sum-zero (λ j. one_if_some (continued (record { messages = λ l. []; entries = [] }) j)) s (λ j. refl) in omega (arith, none)
 is_windowed f _ (Queues v l p b u n h free) = is_windowed f v h
 is_windowed f _ (Goes v room w h next may) = windowed_wish f room w may
 is_windowed f _ (Covers v x h none) = let k = is_windowed f v h in omega arith

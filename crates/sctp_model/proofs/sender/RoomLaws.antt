@@ -7,9 +7,8 @@ use Rattle.sctp_model.specs.numbers.Limits.{WINDOW}
 use Rattle.sctp_model.specs.sender.Readers.{outstanding}
 use Rattle.sctp_model.specs.messages.Format.{Format}
 use Rattle.sctp_model.specs.sender.SenderView.{SenderView}
-use Rattle.sctp_model.specs.sender.Entries.{in_flight}
 use Rattle.sctp_model.specs.sender.Filling.{Wish, next_wish, room_of, is_let_flow, goes, gone, Follows, fill_at_most, fill}
-use Rattle.sctp_model.specs.end.Control.{Control, is_let_in, room_of_repeats, room_controlled}
+use Rattle.sctp_model.specs.end.Control.{Control, chunk_flight, is_let_in, room_of_repeats, room_controlled}
 use Rattle.sctp_model.specs.end.Pacing.{Pace, room_paced, room_by}
 use Rattle.sctp_model.proofs.sender.FillLaws.{goes_is, goes_not, goes_none, goes_parts, room_some, room_fits, fill_is_fill}
 
@@ -25,7 +24,7 @@ repeats_fit f v room (w ∷ ws) u (first, rest) = go (w.view.sent w.index) (repe
     go false more = omega arith
 
 controlled_fits : (k : Control) (f : Format) (room : ℕ) (v : SenderView) → room_controlled k f room v ≤ room
-controlled_fits k f room v = go (is_let_in (in_flight v) k)
+controlled_fits k f room v = go (is_let_in (chunk_flight k.header v) k)
   where
     saved : (b : Bool) → (if b then room_of_repeats f (fill f room v).wishes else 0) ≤ room
     saved true = repeats_fit f v room (fill f room v).wishes (fill f room v).view (fill_is_fill f room v).follows

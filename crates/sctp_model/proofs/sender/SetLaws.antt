@@ -2,11 +2,11 @@
 use Rattle.std.proofs.Common.{◌≡◌, ℕ, ◌+◌, ◌<◌, ◌≤◌, List, [], ◌∷◌, ◌++◌, length, Bool, true, false, Some, None, refl, subst, arith}
 use Rattle.std.specs.Prelude.{◌==◌, nat_le, nat_lt, ◌||◌, if◌then◌else◌}
 use Rattle.std.proofs.lemmas.Bool.Decides.{nat_tests}
-use Rattle.sctp_model.specs.numbers.Limits.{LONGEST_MESSAGE, QUEUE_LIMIT, TICKET_LIMIT, TSN_LIMIT}
+use Rattle.sctp_model.specs.numbers.Limits.{QUEUE_LIMIT, TICKET_LIMIT, TSN_LIMIT}
 use Rattle.sctp_model.specs.messages.Format.{Format}
 use Rattle.sctp_model.specs.sender.SenderView.{Queued, SenderView}
 use Rattle.sctp_model.specs.sender.Outgoing.{is_sending}
-use Rattle.sctp_model.specs.sender.Queueing.{refusal, NoSuchStream, Resetting, Empty, TooLong, QueueFull, Spent, cut, owed_for, promised}
+use Rattle.sctp_model.specs.sender.Queueing.{refusal, NoSuchStream, Resetting, Empty, TooLong, QueueFull, Spent, cut, owed_for, promised, is_over}
 use Rattle.sctp_model.specs.sender.Assigning.{is_on, without_first}
 use Rattle.sctp_model.specs.sender.Reached.{IsReached, Begins, Queues, Goes, Covers, Closes, Abandons, Repeats, Rebases}
 use Rattle.sctp_model.proofs.sender.CutLaws.{cut_some}
@@ -25,7 +25,7 @@ set_assigned _ v _ h (Begun s q lt on first) = record { fragment = h.fragment; t
 set_assigned _ v _ h (Continued s e lt on) = record { fragment = h.fragment; turn = λ some. omega arith }
 
 pub is_set : (f : Format) (v : SenderView) → IsReached f v → IsSet v
-is_set f _ (Begins i s b r p large) = record { fragment = large; turn = λ some. some }
+is_set f _ (Begins i s b r p most large) = record { fragment = large; turn = λ some. some }
 is_set f _ (Queues v l p b u n h free) = let k = is_set f v h in record { fragment = k.fragment; turn = k.turn }
 is_set f _ (Goes v room w h next may) =
     let k = is_set f v h in
@@ -44,7 +44,7 @@ pub record IsAccepted (v : SenderView) (stream : ℕ) (bytes : List ℕ) : Type 
   pub there : stream < v.streams
   pub sends : is_sending (v.resets.sending stream) ≡ true
   pub some : 0 < length bytes
-  pub short : length bytes ≤ LONGEST_MESSAGE
+  pub short : length bytes ≤ v.limits.message
   pub waits : length v.queue < QUEUE_LIMIT
   pub ticket : v.tickets < TICKET_LIMIT
   pub owed : promised v + owed_for (length (cut v.fragment bytes)) ≤ TSN_LIMIT
@@ -52,11 +52,12 @@ pub record IsAccepted (v : SenderView) (stream : ℕ) (bytes : List ℕ) : Type 
 pub accepted : (v : SenderView) (stream : ℕ) (bytes : List ℕ) → refusal v stream bytes ≡ None → IsAccepted v stream bytes
 accepted v stream bytes none = by_stream (nat_le v.streams stream) refl
   where
-    by_spent : (b : Bool) → nat_le v.streams stream ≡ false → is_sending (v.resets.sending stream) ≡ true → (length bytes == 0) ≡ false → nat_lt LONGEST_MESSAGE (length bytes) ≡ false → nat_le QUEUE_LIMIT (length v.queue) ≡ false
+    by_spent : (b : Bool) → nat_le v.streams stream ≡ false → is_sending (v.resets.sending stream) ≡ true → (length bytes == 0) ≡ false → nat_lt v.limits.message (length bytes) ≡ false → (nat_le QUEUE_LIMIT (length v.queue) || is_over v bytes) ≡ false
         → (nat_le TICKET_LIMIT v.tickets || nat_lt TSN_LIMIT (promised v + owed_for (length (cut v.fragment bytes)))) ≡ b → IsAccepted v stream bytes
     by_spent true a z d e g spent = let some : Some Spent ≡ None = rw (a, z, d, e, g, spent) at none in absurd (cc)
     by_spent false a z d e g spent =
         let parts = off_parts (nat_le TICKET_LIMIT v.tickets) (nat_lt TSN_LIMIT (promised v + owed_for (length (cut v.fragment bytes)))) spent in
+        let place = (off_parts (nat_le QUEUE_LIMIT (length v.queue)) (is_over v bytes) g).0 in
         let ticket = parts.0 in
         let owed = parts.1 in
         record {
@@ -73,17 +74,17 @@ accepted v stream bytes none = by_stream (nat_le v.streams stream) refl
         off_parts true y off = absurd (cc)
         off_parts false y off = (refl, off)
 
-    by_full : (b : Bool) → nat_le v.streams stream ≡ false → is_sending (v.resets.sending stream) ≡ true → (length bytes == 0) ≡ false → nat_lt LONGEST_MESSAGE (length bytes) ≡ false → nat_le QUEUE_LIMIT (length v.queue) ≡ b → IsAccepted v stream bytes
+    by_full : (b : Bool) → nat_le v.streams stream ≡ false → is_sending (v.resets.sending stream) ≡ true → (length bytes == 0) ≡ false → nat_lt v.limits.message (length bytes) ≡ false → (nat_le QUEUE_LIMIT (length v.queue) || is_over v bytes) ≡ b → IsAccepted v stream bytes
     by_full true a z d e full = let some : Some QueueFull ≡ None = rw (a, z, d, e, full) at none in absurd (cc)
     by_full false a z d e full = by_spent (nat_le TICKET_LIMIT v.tickets || nat_lt TSN_LIMIT (promised v + owed_for (length (cut v.fragment bytes)))) a z d e full refl
 
-    by_long : (b : Bool) → nat_le v.streams stream ≡ false → is_sending (v.resets.sending stream) ≡ true → (length bytes == 0) ≡ false → nat_lt LONGEST_MESSAGE (length bytes) ≡ b → IsAccepted v stream bytes
+    by_long : (b : Bool) → nat_le v.streams stream ≡ false → is_sending (v.resets.sending stream) ≡ true → (length bytes == 0) ≡ false → nat_lt v.limits.message (length bytes) ≡ b → IsAccepted v stream bytes
     by_long true a z d long = let some : Some TooLong ≡ None = rw (a, z, d, long) at none in absurd (cc)
-    by_long false a z d long = by_full (nat_le QUEUE_LIMIT (length v.queue)) a z d long refl
+    by_long false a z d long = by_full (nat_le QUEUE_LIMIT (length v.queue) || is_over v bytes) a z d long refl
 
     by_empty : (b : Bool) → nat_le v.streams stream ≡ false → is_sending (v.resets.sending stream) ≡ true → (length bytes == 0) ≡ b → IsAccepted v stream bytes
     by_empty true a z empty = let some : Some Empty ≡ None = rw (a, z, empty) at none in absurd (cc)
-    by_empty false a z empty = by_long (nat_lt LONGEST_MESSAGE (length bytes)) a z empty refl
+    by_empty false a z empty = by_long (nat_lt v.limits.message (length bytes)) a z empty refl
 
     by_reset : (b : Bool) → nat_le v.streams stream ≡ false → is_sending (v.resets.sending stream) ≡ b → IsAccepted v stream bytes
     by_reset false a z = let some : Some Resetting ≡ None = rw (a, z) at none in absurd (cc)
@@ -102,7 +103,7 @@ tickets_assigned _ v _ (Continued s e lt on) h = h
 
 -- no more are given than there are: that is refused as Spent
 pub few_tickets : (f : Format) (v : SenderView) → IsReached f v → v.tickets ≤ TICKET_LIMIT
-few_tickets f _ (Begins i s b r p large) = omega arith
+few_tickets f _ (Begins i s b r p most large) = omega arith
 few_tickets f _ (Queues v l p b u n h free) = let a = accepted v l.stream b free in omega (arith, a.ticket)
 few_tickets f _ (Goes v room w h next may) = after_wish (λ u. u.tickets ≤ TICKET_LIMIT) f v w (few_tickets f v h) (λ u a. tickets_assigned f v u a (few_tickets f v h)) (λ u i x. x) next
 few_tickets f _ (Covers v x h none) = few_tickets f v h
@@ -140,7 +141,7 @@ abbrev pub IsQueueFilled : SenderView → Type 0
 IsQueueFilled v = AllFilled v.streams v.queue
 
 pub is_filled : (f : Format) (v : SenderView) → IsReached f v → AllFilled v.streams v.queue
-is_filled f _ (Begins i s b r p large) = tt
+is_filled f _ (Begins i s b r p most large) = tt
 is_filled f _ (Queues v l p b u n h free) =
     let a = accepted v l.stream b free in
     filled_push v.streams v.queue _ (is_filled f v h) (cut_some v.fragment b (is_set f v h).fragment a.some) a.there

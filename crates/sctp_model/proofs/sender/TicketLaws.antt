@@ -132,7 +132,7 @@ ticketed_withdrawn : (v : SenderView) (t : ℕ) → IsTicketed v → IsTicketed 
 ticketed_withdrawn v t h = record { waiting = λ x is. h.waiting x (fewer_without t x v.queue is); apart = apart_without t v.queue h.apart; owned = h.owned }
 
 pub is_ticketed : (f : Format) (v : SenderView) → IsReached f v → IsTicketed v
-is_ticketed f _ (Begins i s b r p large) = record { waiting = λ t is. absurd (cc); apart = tt; owned = tt }
+is_ticketed f _ (Begins i s b r p most large) = record { waiting = λ t is. absurd (cc); apart = tt; owned = tt }
 is_ticketed f _ (Queues v l p b u n h free) = ticketed_queued v _ (is_named f v h) refl (is_ticketed f v h)
 is_ticketed f _ (Goes v room w h next may) =
     let k = is_ticketed f v h in

@@ -173,7 +173,7 @@ limited_timed v test h = record { fresh = h.fresh; most = h.most; marked = λ on
         by_message (Some m) some off = by_limit m.limit some off
 
 pub is_limited : (f : Format) (v : SenderView) → IsReached f v → IsLimited v
-is_limited f _ (Begins i s b r p large) = record { fresh = λ j off. refl; most = λ on j k is. omega arith; marked = λ on j k is mark. absurd (cc) }
+is_limited f _ (Begins i s b r p most large) = record { fresh = λ j off. refl; most = λ on j k is. omega arith; marked = λ on j k is mark. absurd (cc) }
 is_limited f _ (Queues v l p b u n h free) = let k = is_limited f v h in record { fresh = k.fresh; most = k.most; marked = k.marked }
 is_limited f _ (Goes v room w h next may) = limited_wish f v w (is_bounded f v h) (is_named f v h) (is_limited f v h) next
 is_limited f _ (Covers v x h none) = let k = is_limited f v h in record { fresh = k.fresh; most = k.most; marked = λ on i n is mark. k.marked on i n is (and_parts (v.marked i) _ mark).0 }

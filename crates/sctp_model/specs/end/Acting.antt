@@ -1,5 +1,6 @@
 -- What one chunk does at an endpoint with an association: a data type for each kind of chunk, and a row for each state that takes it (RFC 9260, 4, 6 and 9).
 use Rattle.std.specs.Prelude.{◌≡◌, ℕ, ◌+◌, ◌<◌, ◌⊎◌, nat_lt, Bool, true, false, ◌&&◌, ◌||◌, ◌==◌, if◌then◌else◌, List, [], ◌∷◌, ◌++◌, length, Some, None}
+use Rattle.std.specs.Prelude.{nat_le, not}
 use Rattle.sctp_model.specs.numbers.Numbers.{u16_bytes}
 use Rattle.sctp_model.specs.wire.Typed.{Typed, typed_in}
 use Rattle.sctp_model.specs.wire.Unknown.{chunk_rule}
@@ -8,7 +9,7 @@ use Rattle.sctp_model.specs.wire.Chunk.{Abort, Shutdown, ShutdownAck, Error, Coo
 use Rattle.sctp_model.specs.messages.Format.{Format, Plain, Interleaved}
 use Rattle.sctp_model.specs.receiver.ReceiverView.{ReceiverView, IsCumulative}
 use Rattle.sctp_model.specs.sender.SackTaken.{Stale, Beyond, BadBlock, sack_fault, sack_taken, shutdown_fault, shutdown_taken}
-use Rattle.sctp_model.specs.receiver.PieceTaken.{PieceAnswer, Duplicate, Ahead, NoSuchStream, Passed, NoRoom, Kept, PieceTaken}
+use Rattle.sctp_model.specs.receiver.PieceTaken.{PieceAnswer, Duplicate, Ahead, NoSuchStream, Passed, NoRoom, Kept, PieceTaken, is_misnumbered}
 use Rattle.sctp_model.specs.receiver.ForwardTaken.{OutOfDate, Bad, Moved, ForwardTaken}
 use Rattle.sctp_model.specs.end.EndView.{format_of, Tags, Completed, Aborted, StaleCookie, Stage, ShutdownSent, ShutdownReceived, ShutdownAckSent, Phase}
 use Rattle.sctp_model.specs.end.EndView.{Calling, Echoing, Open, DataAlarm, Timer, EndView}
@@ -18,6 +19,8 @@ use Rattle.sctp_model.specs.end.Reports.{item, causes_with, with_causes, fits_al
 use Rattle.sctp_model.specs.end.PeerFaults.{Unnoted, ToAcknowledge, After, GoesOn, Ends, PassedOver, Replies, packet_to, at_fault, no_user_data, violation}
 use Rattle.sctp_model.specs.end.Opening.{InitAckActs, EchoActs, CookieAckActs}
 use Rattle.sctp_model.specs.end.Reconfiguring.{parameters_heard, takes_reconfig}
+use Rattle.sctp_model.specs.end.Misses.{moves, newest}
+use Rattle.sctp_model.specs.end.Beating.{beat_heard}
 
 -- ---- chunks with data (6.2 and 6.5; RFC 8260, 2.1 and 2.2)
 
@@ -42,6 +45,10 @@ piece_causes e p Passed = e.due.causes
 piece_causes e p NoRoom = e.due.causes
 piece_causes e p Kept = e.due.causes
 
+-- a strict endpoint ends the association if its peer numbers fragments against the rules (RFC 8260, 2.1), at the cumulative index c
+abbrev pub is_refused : EndView → (c : ℕ) → PieceMeaning → Bool
+is_refused e c p = e.configuration.strict && is_misnumbered (format_of e) e.receiver c p
+
 -- What a DATA or an I-DATA does (6.2; RFC 8260, 2.1).
 pub data PieceActs (f : Format) (e : EndView) (p : PieceMeaning) : After → Type 0 where
   PieceNotHeard : hears takes_data e.phase ≡ false → PieceActs f e p PassedOver
@@ -49,8 +56,10 @@ pub data PieceActs (f : Format) (e : EndView) (p : PieceMeaning) : After → Typ
       PieceActs f e p (at_fault t (no_user_data p.tsn) e)
   WrongFormat : (t : Tags) (g : Stage) → e.phase ≡ Open t g → takes_data g ≡ true → 0 < length p.bytes → same_format f (format_of e) ≡ false →
       PieceActs f e p (at_fault t violation e)
+  Misnumbered : (t : Tags) (g : Stage) (c : ℕ) → e.phase ≡ Open t g → takes_data g ≡ true → 0 < length p.bytes → same_format f (format_of e) ≡ true →
+      IsCumulative e.receiver c → is_refused e c p ≡ true → PieceActs f e p (at_fault t violation e)
   PieceComes : (t : Tags) (g : Stage) (a : PieceAnswer) (r : ReceiverView) → e.phase ≡ Open t g → takes_data g ≡ true → 0 < length p.bytes →
-      same_format f (format_of e) ≡ true → PieceTaken (format_of e) e.receiver p a r →
+      same_format f (format_of e) ≡ true → (k : PieceTaken (format_of e) e.receiver p a r) → is_refused e k.c p ≡ false →
       PieceActs f e p (GoesOn (ToAcknowledge true (asks_at_once p a)) (with_causes (piece_causes e p a) (record e { receiver = r })))
 
 -- ---- FORWARD-TSN and I-FORWARD-TSN (RFC 3758, 3.6; RFC 8260, 2.3.1)
@@ -73,12 +82,24 @@ pub data ForwardActs (f : Format) (e : EndView) (m : ForwardMeaning) : After →
 
 -- ---- SACK (6.2.1 and 6.3.2)
 
+-- A SACK that acknowledges nothing new, of a peer that has space for a fragment, at an endpoint that doesn't take it for an answer (8.1): one that has none is
+-- probed without being counted (6.1, rule A).
+abbrev pub is_in_vain : EndView → SackMeaning → Bool
+is_in_vain e s =
+    let v = sack_taken e.sender s in
+    e.configuration.progress && (not (moves e.sender v) && ((newest false e.sender v == 0) && nat_le e.configuration.fragment s.rwnd))
+
+-- the data timer after a SACK, with the count of its expiries before, if it was in vain
+abbrev pub timer_acked : (vain : Bool) → Timer → (repeats : ℕ) → Timer
+timer_acked vain t n = record t { repeats = if vain then n else t.repeats }
+
 -- The endpoint after a SACK that was taken: what it acknowledges is acknowledged; a FORWARD is due if the point is past CUM; the data timer's count of
 -- expiries is 0 again; and an endpoint with a pace acts on the round trip and the misses that it reports.
 abbrev pub sack_heard : EndView → SackMeaning → EndView
 sack_heard e s =
     let x = settled (record e { sender = sack_taken e.sender s; due = record e.due { forward = true } }) in
-    paced e.sender (e.timers DataAlarm).wait (renewed e.moment (nat_lt e.sender.cum (sack_taken e.sender s).cum) (x.timers DataAlarm)) x
+    let t = renewed e.configuration.first_wait e.moment (nat_lt e.sender.cum (sack_taken e.sender s).cum) (x.timers DataAlarm) in
+    paced e.sender (e.timers DataAlarm).wait (timer_acked (is_in_vain e s) t (e.timers DataAlarm).repeats) x
 
 -- What a SACK does (6.2.1).
 pub data SackActs (e : EndView) (s : SackMeaning) : After → Type 0 where
@@ -118,15 +139,16 @@ pub data ErrorActs (e : EndView) (causes : List ℕ) : After → Type 0 where
 
 -- The data timer after a SHUTDOWN whose cumulative TSN was taken: it stays as it is; with standard closing one that moved CUM is to it what a SACK is
 -- (6.3.2, 9.2).
-abbrev pub shut_timer : (standard moved : Bool) → (now : ℕ) → Timer → Timer
-shut_timer standard moved now t = if standard && moved then renewed now true t else t
+abbrev pub shut_timer : (standard moved : Bool) → (first now : ℕ) → Timer → Timer
+shut_timer standard moved first now t = if standard && moved then renewed first now true t else t
 
 -- what the cumulative TSN of a SHUTDOWN acknowledges
 abbrev pub shutdown_counted : EndView → ℕ → EndView
 shutdown_counted e tsn =
     let x = settled (record e { sender = shutdown_taken e.sender tsn }) in
+    let moved = nat_lt e.sender.cum (shutdown_taken e.sender tsn).cum in
     paced e.sender (e.timers DataAlarm).wait
-    (shut_timer e.configuration.standard_closing (nat_lt e.sender.cum (shutdown_taken e.sender tsn).cum) e.moment (x.timers DataAlarm)) x
+    (shut_timer e.configuration.standard_closing moved e.configuration.first_wait e.moment (x.timers DataAlarm)) x
 
 -- the peer says that it is done (9.2): its cumulative TSN acknowledges
 abbrev pub shutdown_heard : Tags → EndView → ℕ → EndView
@@ -198,7 +220,7 @@ Acts e tag (Init m) a = a ≡ PassedOver
 Acts e tag (InitAck m) a = InitAckActs e m a
 Acts e tag (Sack s) a = SackActs e s a
 Acts e tag (Heartbeat info) a = HeartbeatActs e info a
-Acts e tag (HeartbeatAck info) a = a ≡ GoesOn Unnoted e
+Acts e tag (HeartbeatAck info) a = a ≡ GoesOn Unnoted (beat_heard e info)
 Acts e tag (Abort t causes) a = a ≡ Ends (closed Aborted e)
 Acts e tag (Shutdown tsn) a = ShutdownActs e tsn a
 Acts e tag ShutdownAck a = ShutdownAckActs e a

@@ -99,7 +99,7 @@ delays e = record e { delayed = Some (after_wait e.moment SACK_DELAY) }
 -- with standard closing user data in SHUTDOWN SENT clears the count of the SHUTDOWN's timer, which begins anew if it runs (9.2)
 abbrev pub kept_going : Bool → EndView → EndView
 kept_going false e = e
-kept_going true e = with_timer ShutdownAlarm (renewed e.moment true (e.timers ShutdownAlarm)) e
+kept_going true e = with_timer ShutdownAlarm (renewed e.configuration.first_wait e.moment true (e.timers ShutdownAlarm)) e
 
 -- What a packet leaves at an open endpoint, if something in it is to be acknowledged.
 abbrev pub answered_in : Notes → Stage → EndView → EndView

@@ -1,13 +1,16 @@
 -- The timers of an endpoint: when they start, stop and expire (RFC 9260, 6.3, 5.1 and 9.2; RFC 3758, 3.5).
 use Rattle.std.specs.Prelude.{ℕ, suc, ◌+◌, ◌-◌, ◌*◌, min, max, ◌==◌, nat_lt, nat_le, Bool, true, false, ◌&&◌, if◌then◌else◌, Option, None, Some, option_map}
-use Rattle.sctp_model.specs.numbers.Limits.{LAST_MOMENT, FIRST_WAIT, LONGEST_WAIT, OPENING_REPEATS, REPEATS}
+use Rattle.std.specs.Prelude.{not, ◌||◌, is_some}
+use Rattle.sctp_model.specs.numbers.Limits.{LAST_MOMENT, LONGEST_WAIT}
 use Rattle.sctp_model.specs.sender.SenderView.{SenderView}
 use Rattle.sctp_model.specs.sender.Words.{when}
 use Rattle.sctp_model.specs.sender.Entries.{in_flight}
 use Rattle.sctp_model.specs.sender.Readers.{point, unsettled}
+use Rattle.sctp_model.specs.end.Trips.{RtoBounds}
 use Rattle.sctp_model.specs.end.Pacing.{Pace, pace_begun, wait_begun, heard, wait_heard}
 use Rattle.sctp_model.specs.end.EndView.{Established, ShutdownSent, ShutdownAckSent, Phase, Calling, Echoing, Open, Over, Ended, Due, nothing_due, Alarm}
-use Rattle.sctp_model.specs.end.EndView.{InitAlarm, CookieAlarm, DataAlarm, ShutdownAlarm, AckAlarm, ResetAlarm, Timer, EndView}
+use Rattle.sctp_model.specs.end.EndView.{InitAlarm, CookieAlarm, DataAlarm, ShutdownAlarm, AckAlarm, ResetAlarm, Timer, EndView, waits_of}
+use Rattle.sctp_model.specs.end.EndView.{ShutdownPending, ShutdownReceived, BeatAlarm, GuardAlarm}
 
 -- ---- one timer
 
@@ -25,22 +28,29 @@ abbrev pub stopped : Timer → Timer
 stopped t = record t { expiry = None }
 
 -- the timer once it has expired: it counts one more, rests, and will wait twice as long, up to the longest wait (RFC 9260, 6.3.3)
-abbrev pub expired_timer : Timer → Timer
-expired_timer t = record { wait = min (2 * t.wait) LONGEST_WAIT; repeats = suc t.repeats; expiry = None }
+abbrev pub expired_timer : (longest : ℕ) → Timer → Timer
+expired_timer longest t = record { wait = min (2 * t.wait) longest; repeats = suc t.repeats; expiry = None }
 
 -- an expiry that is set is reached by now
 abbrev pub is_over_at : ℕ → Option ℕ → Bool
 is_over_at now (Some m) = nat_le m now
 is_over_at now None = false
 
--- how often its packet is repeated before the endpoint gives up (RFC 9260, 6.3.3, 5.1 and 9.2)
-abbrev pub repeats_of : Alarm → ℕ
-repeats_of InitAlarm = OPENING_REPEATS
-repeats_of CookieAlarm = OPENING_REPEATS
-repeats_of DataAlarm = REPEATS
-repeats_of ShutdownAlarm = REPEATS
-repeats_of AckAlarm = REPEATS
-repeats_of ResetAlarm = REPEATS
+-- The peer didn't answer the last HEARTBEAT, and nothing else is to be acknowledged, for which the data timer would count instead (RFC 9260, 8.3).
+abbrev pub is_beat_lost : EndView → Bool
+is_beat_lost e = is_some e.beats.sent && not (unsettled e.sender)
+
+-- At an expiry of this timer the endpoint goes on: its packet wasn't repeated as often as may be (RFC 9260, 6.3.3, 5.1 and 9.2). Unanswered HEARTBEATs and
+-- expiries of the data timer have one count (8.1). The timer of closing expires once.
+abbrev pub may_go_on : Alarm → EndView → Bool
+may_go_on InitAlarm e = nat_lt (e.timers InitAlarm).repeats e.configuration.opening_repeats
+may_go_on CookieAlarm e = nat_lt (e.timers CookieAlarm).repeats e.configuration.opening_repeats
+may_go_on DataAlarm e = nat_lt (e.timers DataAlarm).repeats e.configuration.repeats
+may_go_on ShutdownAlarm e = nat_lt (e.timers ShutdownAlarm).repeats e.configuration.repeats
+may_go_on AckAlarm e = nat_lt (e.timers AckAlarm).repeats e.configuration.repeats
+may_go_on ResetAlarm e = nat_lt (e.timers ResetAlarm).repeats e.configuration.repeats
+may_go_on BeatAlarm e = not (is_beat_lost e) || nat_lt (e.timers DataAlarm).repeats e.configuration.repeats
+may_go_on GuardAlarm e = false
 
 -- ---- the timers of an endpoint
 
@@ -52,6 +62,8 @@ alarm_number DataAlarm = 2
 alarm_number ShutdownAlarm = 3
 alarm_number AckAlarm = 4
 alarm_number ResetAlarm = 5
+alarm_number BeatAlarm = 6
+alarm_number GuardAlarm = 7
 
 -- another timer in this one's place
 abbrev pub replaced : Alarm → Timer → (Alarm → Timer) → Alarm → Timer
@@ -79,6 +91,11 @@ is_home DataAlarm (Open t g) = true
 is_home ShutdownAlarm (Open t ShutdownSent) = true
 is_home AckAlarm (Open t ShutdownAckSent) = true
 is_home ResetAlarm (Open t Established) = true
+is_home BeatAlarm (Open t Established) = true
+is_home BeatAlarm (Open t ShutdownPending) = true
+is_home BeatAlarm (Open t ShutdownReceived) = true
+is_home GuardAlarm (Open t ShutdownSent) = true
+is_home GuardAlarm (Open t ShutdownAckSent) = true
 is_home a h = false
 
 -- What was due once the endpoint has gone to this state: the packets that belong to one state alone are forgotten elsewhere, all others stay.
@@ -86,6 +103,7 @@ abbrev pub due_in : Phase → Due → Due
 due_in h d = record d {
   init = d.init && is_home InitAlarm h;
   cookie_echo = d.cookie_echo && is_home CookieAlarm h;
+  beat = d.beat && is_home BeatAlarm h;
   request = d.request && is_home ResetAlarm h;
   shutdown = d.shutdown && is_home ShutdownAlarm h;
   shutdown_ack = d.shutdown_ack && is_home AckAlarm h;
@@ -116,15 +134,15 @@ settled e = record (with_timer DataAlarm (if unsettled e.sender then e.timers Da
 }
 
 -- a timer that runs expires a first wait after this time; one that doesn't still rests
-abbrev pub renewed_expiry : ℕ → Option ℕ → Option ℕ
-renewed_expiry now None = None
-renewed_expiry now (Some m) = Some (after_wait now FIRST_WAIT)
+abbrev pub renewed_expiry : (first now : ℕ) → Option ℕ → Option ℕ
+renewed_expiry first now None = None
+renewed_expiry first now (Some m) = Some (after_wait now first)
 
 -- The data timer after a SACK that was taken: its count of repeats is 0; if the SACK moved CUM, its wait is the first one again, and it begins anew if it
 -- still runs (RFC 9260, 6.3.2).
-abbrev pub renewed : ℕ → Bool → Timer → Timer
-renewed now false t = record t { repeats = 0 }
-renewed now true t = record { wait = FIRST_WAIT; repeats = 0; expiry = renewed_expiry now t.expiry }
+abbrev pub renewed : (first now : ℕ) → Bool → Timer → Timer
+renewed first now false t = record t { repeats = 0 }
+renewed first now true t = record { wait = first; repeats = 0; expiry = renewed_expiry first now t.expiry }
 
 -- ---- the timer of a request that is in progress
 
@@ -137,7 +155,7 @@ restarted_expiry now wait (Some m) = Some (after_wait now wait)
 abbrev pub restarted : (now wait : ℕ) → Timer → Timer
 restarted now wait t = record { wait = wait; repeats = 0; expiry = restarted_expiry now wait t.expiry }
 
--- ---- the data timer of an endpoint with a pace
+-- ---- the data timer after an acknowledgement
 
 -- The data timer's expiry after an acknowledgement, with this RTO: a running timer is restarted if that is asked for (`anew`), one that doesn't run is
 -- started if data is in flight (RFC 9260, 6.3.2, R3 and R4, and 7.2.4, step 4).
@@ -145,9 +163,10 @@ abbrev pub paced_expiry : (now wait : ℕ) → (anew flies : Bool) → Option �
 paced_expiry now wait anew flies None = when flies (after_wait now wait)
 paced_expiry now wait anew flies (Some m) = Some (if anew then after_wait now wait else m)
 
--- That timer; `wait` is the RTO before the acknowledgement. Without a pace it stays as it is.
-abbrev pub timer_heard : Option Pace → (now least wait : ℕ) → (v u : SenderView) → Timer → Timer
-timer_heard None now least wait v u t = t
+-- That timer; `wait` is the RTO before the acknowledgement. Without a pace it stays as it is, but one that rests starts if data is in flight: what a SACK had
+-- acknowledged and this one doesn't (6.3.2, R4).
+abbrev pub timer_heard : Option Pace → (now : ℕ) → RtoBounds → (wait : ℕ) → (v u : SenderView) → Timer → Timer
+timer_heard None now least wait v u t = record t { expiry = paced_expiry now t.wait false (nat_lt 0 (in_flight u)) t.expiry }
 timer_heard (Some p) now least wait v u t =
     let h = heard now v u p in
     let w = wait_heard least wait h in
@@ -160,7 +179,7 @@ sender_heard (Some p) now v u = (heard now v u p).sender
 
 -- The endpoint after an acknowledgement that its sender has taken: `v` is the sender before it, `wait` the RTO before it, `t` the data timer without a pace.
 abbrev pub paced : (v : SenderView) → (wait : ℕ) → Timer → EndView → EndView
-paced v wait t e = record (with_timer DataAlarm (timer_heard e.pace e.moment e.configuration.least_wait wait v e.sender t) e) {
+paced v wait t e = record (with_timer DataAlarm (timer_heard e.pace e.moment (waits_of e.configuration) wait v e.sender t) e) {
   sender = sender_heard e.pace e.moment v e.sender;
   pace = option_map (λ p. (heard e.moment v e.sender p).pace) e.pace;
 }
@@ -168,11 +187,11 @@ paced v wait t e = record (with_timer DataAlarm (timer_heard e.pace e.moment e.c
 -- ---- the round trip of the handshake
 
 -- The round trip of a COOKIE ECHO that was sent once, by the time at which its timer was started; none if it was retransmitted (RFC 9260, 6.3.1, C5).
-abbrev pub echo_trip : (now : ℕ) → Timer → Option ℕ
-echo_trip now t = if t.repeats == 0 then option_map (λ m. min (now - (m - FIRST_WAIT)) LONGEST_WAIT) t.expiry else None
+abbrev pub echo_trip : (first now : ℕ) → Timer → Option ℕ
+echo_trip first now t = if t.repeats == 0 then option_map (λ m. min (now - (m - first)) LONGEST_WAIT) t.expiry else None
 
 -- the data timer of a new association with this pace
-abbrev pub timer_begun : Option Pace → (least wait : ℕ) → Timer → Timer
+abbrev pub timer_begun : Option Pace → RtoBounds → (wait : ℕ) → Timer → Timer
 timer_begun None least wait t = t
 timer_begun (Some p) least wait t = record t { wait = wait_begun least wait p }
 
@@ -181,4 +200,4 @@ timer_begun (Some p) least wait t = record t { wait = wait_begun least wait p }
 abbrev pub measured : (trip : Option ℕ) → (wait : ℕ) → EndView → EndView
 measured trip wait e =
     let p = option_map (pace_begun trip) e.pace in
-    record (with_timer DataAlarm (timer_begun p e.configuration.least_wait wait (e.timers DataAlarm)) e) { pace = p }
+    record (with_timer DataAlarm (timer_begun p (waits_of e.configuration) wait (e.timers DataAlarm)) e) { pace = p }

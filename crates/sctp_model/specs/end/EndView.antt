@@ -1,35 +1,12 @@
 -- An endpoint of an association: its state, what it is to send, its timers, its sender and its receiver (RFC 9260, 4).
 use Rattle.std.specs.Prelude.{ℕ, ◌^◌, ◌<◌, Bool, true, false, List, [], Option, Some, None}
-use Rattle.sctp_model.specs.numbers.Limits.{FIRST_WAIT}
 use Rattle.sctp_model.specs.wire.Typed.{Typed}
 use Rattle.sctp_model.specs.messages.Format.{Format, Plain, Interleaved}
 use Rattle.sctp_model.specs.sender.SenderView.{SenderView, fresh_sender}
 use Rattle.sctp_model.specs.receiver.ReceiverView.{ReceiverView, fresh_receiver}
 use Rattle.sctp_model.specs.end.Sealing.{Sealing}
 use Rattle.sctp_model.specs.end.Pacing.{Pace}
-
--- What an endpoint is set up with. Sizes are in bytes, `outbound` and `inbound` count streams.
-pub record Configuration : Type 0 where
-  pub own_port : ℕ
-  pub peer_port : ℕ
-  pub limit : ℕ
-  pub fragment : ℕ
-  pub buffer : ℕ
-  pub outbound : ℕ
-  pub inbound : ℕ
-  pub interleave : Bool
-  pub partial : Bool
-  -- its SACKs may wait for another packet (RFC 9260, 6.2)
-  pub delay : Bool
-  -- data and what acknowledges it keep a closing association going, as in RFC 9260, 9.2
-  pub standard_closing : Bool
-  -- Fast Retransmit is on, and the RTO is computed from round trips, with this minimum in milliseconds (RFC 9260, 6.3.1 and 7.2.4)
-  pub fast_retransmit : Bool
-  pub least_wait : ℕ
-  -- with Fast Retransmit: a congestion window limits what is in flight (RFC 9260, 7.2)
-  pub congestion_control : Bool
-  -- it may reset its streams, and its peer may (RFC 6525)
-  pub reset : Bool
+pub use Rattle.sctp_model.specs.end.Settings.{Configuration, send_limits, first_offer, waits_of}
 
 -- The random values of an endpoint that begins: the tag that packets to it will carry, and the TSN of its index 1 (RFC 9260, 5.3.1 and 3.3.2).
 pub record Draw : Type 0 where
@@ -127,10 +104,21 @@ pub record Terms : Type 0 where
   pub partial : Bool
   -- RE-CONFIG (RFC 6525)
   pub reset : Bool
+  -- packets with the checksum 0 (RFC 9653)
+  pub zero_checksum : Bool
 
 -- before an association
 abbrev pub no_terms : Terms
-no_terms = record { own_tsn = 0; peer_tsn = 0; outbound = 0; inbound = 0; interleave = false; partial = false; reset = false }
+no_terms = record {
+  own_tsn = 0;
+  peer_tsn = 0;
+  outbound = 0;
+  inbound = 0;
+  interleave = false;
+  partial = false;
+  reset = false;
+  zero_checksum = false;
+}
 
 -- the format, by whether I-DATA is on
 abbrev pub format_for : Bool → Format
@@ -146,6 +134,8 @@ pub record Due : Type 0 where
   pub cookie_ack : Bool
   -- the value that the last HEARTBEAT asks back (8.3)
   pub heartbeat : Option (List ℕ)
+  -- a HEARTBEAT of its own (8.3)
+  pub beat : Bool
   -- what is to be reported to the peer in one ERROR (3.3.10)
   pub causes : List Typed
   pub sack : Bool
@@ -163,6 +153,7 @@ nothing_due = record {
   cookie_echo = false;
   cookie_ack = false;
   heartbeat = None;
+  beat = false;
   causes = [];
   sack = false;
   forward = false;
@@ -174,12 +165,13 @@ nothing_due = record {
 -- ---- timers
 
 -- One for each kind of packet that is retransmitted until it is answered: INIT, COOKIE ECHO, data or FORWARD, SHUTDOWN, SHUTDOWN ACK,
--- a request to reset streams (RFC 9260, 5.1, 6.3 and 9.2; RFC 6525, 5.1.1).
+-- a request to reset streams (RFC 9260, 5.1, 6.3 and 9.2; RFC 6525, 5.1.1); and one each for HEARTBEATs and for closing as a whole (RFC 9260, 8.3 and 9.2).
 pub data Alarm : Type 0 where
   InitAlarm CookieAlarm : Alarm
   DataAlarm : Alarm
   ShutdownAlarm AckAlarm : Alarm
   ResetAlarm : Alarm
+  BeatAlarm GuardAlarm : Alarm
 
 -- A timer, in milliseconds: how long it will wait when it starts next, how many times it expired since all was well, and the time at which it expires while
 -- it runs.
@@ -188,9 +180,20 @@ pub record Timer : Type 0 where
   pub repeats : ℕ
   pub expiry : Option ℕ
 
--- a timer that never ran
-abbrev pub unused_timer : Timer
-unused_timer = record { wait = FIRST_WAIT; repeats = 0; expiry = None }
+-- a timer that never ran, with this first wait
+abbrev pub unused_timer : (first : ℕ) → Timer
+unused_timer first = record { wait = first; repeats = 0; expiry = None }
+
+-- ---- heartbeats
+
+-- The endpoint's own HEARTBEATs: how many it made, and the time at which the last one was sent, until it is answered (RFC 9260, 8.3).
+pub record Beats : Type 0 where
+  pub made : ℕ
+  pub sent : Option ℕ
+
+-- before the first
+abbrev pub no_beats : Beats
+no_beats = record { made = 0; sent = None }
 
 -- ---- the endpoint
 
@@ -206,8 +209,11 @@ pub record EndView : Type 0 where
   pub timers : Alarm → Timer
   -- the time at which a delayed SACK is due, while one is delayed (RFC 9260, 6.2)
   pub delayed : Option ℕ
+  -- the window that it advertised last, by a SACK or its INIT (RFC 9260, 3.3.4)
+  pub offered : ℕ
   -- its state of round trips, misses and congestion control, if it is set up for them (RFC 9260, 6.3.1 and 7.2)
   pub pace : Option Pace
+  pub beats : Beats
   pub terms : Terms
   pub sender : SenderView
   pub receiver : ReceiverView
@@ -220,12 +226,14 @@ fresh_end c r h = record {
   phase = h;
   moment = 0;
   due = nothing_due;
-  timers = λ a. unused_timer;
+  timers = λ a. unused_timer c.first_wait;
   delayed = None;
+  offered = first_offer c;
   pace = None;
+  beats = no_beats;
   terms = no_terms;
-  sender = fresh_sender 0 0 c.fragment 0 false;
-  receiver = fresh_receiver 0 0 c.buffer;
+  sender = fresh_sender 0 0 c.fragment 0 false (send_limits c);
+  receiver = fresh_receiver 0 0 c.buffer c.reserve;
 }
 
 -- the format of user data

@@ -1,15 +1,16 @@
 -- Time at an endpoint: messages past their lifetime are abandoned, then each timer that is due expires once, and a delayed SACK is due (RFC 9260, 6.2,
 -- 6.3.3, 5.1 and 9.2; RFC 3758, 3.5).
-use Rattle.std.specs.Prelude.{ℕ, nat_lt, min, Bool, true, false, not, ◌||◌, ◌==◌, if◌then◌else◌, List, [], ◌∷◌, Option, Some, None, option_map}
+use Rattle.std.specs.Prelude.{ℕ, min, Bool, true, false, not, ◌||◌, ◌==◌, if◌then◌else◌, List, [], ◌∷◌, Option, Some, None, option_map}
 use Rattle.sctp_model.specs.sender.SenderView.{SenderView}
 use Rattle.sctp_model.specs.sender.Readers.{point}
 use Rattle.sctp_model.specs.sender.Resetting.{retried}
 use Rattle.sctp_model.specs.sender.Abandoning.{expired, worn, timed_out}
 use Rattle.sctp_model.specs.end.EndView.{TimedOut, Alarm, InitAlarm, CookieAlarm, DataAlarm, ShutdownAlarm, AckAlarm, ResetAlarm, Timer, EndView}
-use Rattle.sctp_model.specs.end.EndView.{has_association}
-use Rattle.sctp_model.specs.end.Clock.{repeats_of, is_over_at, with_timer, at_moment, closed, is_point_past, settled}
-use Rattle.sctp_model.specs.end.Clock.{expired_timer}
+use Rattle.sctp_model.specs.end.EndView.{has_association, BeatAlarm, GuardAlarm}
+use Rattle.sctp_model.specs.end.Clock.{is_over_at, with_timer, at_moment, closed, is_point_past, settled}
+use Rattle.sctp_model.specs.end.Clock.{expired_timer, may_go_on}
 use Rattle.sctp_model.specs.end.Pacing.{expired_pace}
+use Rattle.sctp_model.specs.end.Beating.{beat_again}
 use Rattle.sctp_model.specs.end.Closing.{with_due, rested}
 
 -- ---- giving up
@@ -29,18 +30,20 @@ due_again CookieAlarm e = with_due (record e.due { cookie_echo = true }) e
 due_again DataAlarm e = record e {
   sender = timed_out e.sender;
   due = record e.due { forward = is_point_past e.sender };
-  pace = option_map expired_pace e.pace;
+  pace = option_map (expired_pace e.sender) e.pace;
 }
 due_again ShutdownAlarm e = with_due (record e.due { shutdown = true }) e
 due_again AckAlarm e = with_due (record e.due { shutdown_ack = true }) e
 due_again ResetAlarm e = record e { sender = retried e.sender; due = record e.due { request = true } }
+due_again BeatAlarm e = beat_again e
+due_again GuardAlarm e = e
 
 -- A timer that is due expires; the last time the endpoint gives up, and sends nothing (8.1).
 abbrev pub rung : Bool → Alarm → EndView → EndView
 rung false a e = e
 rung true a e =
-    if nat_lt (e.timers a).repeats (repeats_of a)
-    then due_again a (with_timer a (expired_timer (e.timers a)) e)
+    if may_go_on a e
+    then due_again a (with_timer a (expired_timer e.configuration.longest_wait (e.timers a)) e)
     else closed TimedOut e
 
 -- the timer expires if its time is reached
@@ -54,7 +57,7 @@ rung_all (a ∷ more) e = rung_all more (ring a e)
 
 -- the timers, in the order in which they expire at one time
 abbrev pub all_alarms : List Alarm
-all_alarms = InitAlarm ∷ CookieAlarm ∷ DataAlarm ∷ ShutdownAlarm ∷ AckAlarm ∷ ResetAlarm ∷ []
+all_alarms = InitAlarm ∷ CookieAlarm ∷ DataAlarm ∷ ShutdownAlarm ∷ AckAlarm ∷ ResetAlarm ∷ BeatAlarm ∷ GuardAlarm ∷ []
 
 -- ---- a SACK that waits
 

@@ -1,7 +1,8 @@
 -- How an association begins: INIT, INIT ACK, COOKIE ECHO, COOKIE ACK (RFC 9260, 5.1).
 use Rattle.std.specs.Prelude.{◌≡◌, ℕ, ◌-◌, ◌*◌, ◌^◌, ◌<◌, ◌⊎◌, min, nat_le, Bool, true, false, not, ◌&&◌, ◌||◌, ◌==◌, if◌then◌else◌, List, [], ◌∷◌, ◌++◌}
 use Rattle.std.specs.Prelude.{Option, Some, None}
-use Rattle.sctp_model.specs.numbers.Limits.{COOKIE_LIFE, FIRST_WAIT, LONGEST_WAIT}
+use Rattle.sctp_model.specs.messages.Framing.{header_of}
+use Rattle.sctp_model.specs.numbers.Limits.{COOKIE_LIFE, LONGEST_WAIT}
 use Rattle.sctp_model.specs.numbers.Numbers.{u16_bytes, u32_bytes}
 use Rattle.sctp_model.specs.wire.Typed.{Typed, typed_in}
 use Rattle.sctp_model.specs.wire.Unknown.{parameters_reported}
@@ -12,74 +13,23 @@ use Rattle.sctp_model.specs.sender.SenderView.{fresh_sender}
 use Rattle.sctp_model.specs.receiver.ReceiverView.{fresh_receiver}
 use Rattle.sctp_model.specs.end.Sealing.{Body, Sealing}
 use Rattle.sctp_model.specs.end.Pacing.{Pace, fresh_pace}
-use Rattle.sctp_model.specs.end.EndView.{Terms, Configuration, Draw, Tags, AbortedHere, Stage, Established, Phase, Idle, Calling, Echoing, Open, Role}
-use Rattle.sctp_model.specs.end.EndView.{Caller, Paired, Listener, CookieAlarm, EndView, fresh_end}
+use Rattle.sctp_model.specs.end.EndView.{Terms, Configuration, first_offer, send_limits, Draw, Tags, AbortedHere, Stage, Established, Phase, Idle, Calling, Echoing, Open}
+use Rattle.sctp_model.specs.end.EndView.{Role, Caller, Paired, Listener, CookieAlarm, EndView, fresh_end, format_for}
 use Rattle.sctp_model.specs.end.Clock.{turned, closed, echo_trip, measured}
+use Rattle.sctp_model.specs.end.Beating.{beating}
 use Rattle.sctp_model.specs.end.Closing.{with_due, takes_cookies, hears}
 use Rattle.sctp_model.specs.end.Reports.{written, item, fits_alone, causes_with, as_fit, MISSING_PARAMETER, OUT_OF_RESOURCE, INVALID_PARAMETER}
 use Rattle.sctp_model.specs.end.Reports.{UNRECOGNIZED_PARAMETERS}
-use Rattle.sctp_model.specs.end.Options.{STATE_COOKIE, value_of, agreed_interleave, agreed_partial, agreed_reset, own_options, reports_of}
+use Rattle.sctp_model.specs.end.Options.{STATE_COOKIE, value_of, agreed_interleave, agreed_partial, agreed_reset, own_options, reports_of, said_to}
+use Rattle.sctp_model.specs.end.Options.{agreed_zero_checksum}
+pub use Rattle.sctp_model.specs.end.Joining.{tags_between, pace_for, joined, terms_of_ack, terms_of_body, terms_alike}
 use Rattle.sctp_model.specs.end.PeerFaults.{TAG, COOKIE, Unnoted, After, GoesOn, PassedOver, Replies, Drops, packet_to, abort_for}
 
 -- ---- an association that begins
 
--- the tags by an endpoint's own random values and its peer's (RFC 9260, 5.3.1)
-abbrev pub tags_between : Draw → Draw → Tags
-tags_between own peer = record { own = own.tag; peer = peer.tag }
-
--- its pace, if it is set up for one
-abbrev pub pace_for : Configuration → (window : ℕ) → Option Pace
-pace_for c window = when c.fast_retransmit (fresh_pace c.congestion_control (c.limit - size_of_packet []) window)
-
--- The endpoint joins an association on these terms: nothing is sent or heard in it yet. `window` is the peer's, in bytes.
-abbrev pub joined : Terms → (window : ℕ) → EndView → EndView
-joined x window e = record e {
-  pace = pace_for e.configuration window;
-  terms = x;
-  sender = fresh_sender x.own_tsn x.outbound e.configuration.fragment window x.partial;
-  receiver = fresh_receiver x.peer_tsn x.inbound e.configuration.buffer;
-}
-
--- The terms of a caller with these random values, to which this INIT ACK is an answer. Each way has the lesser of the streams that its sender asks for and
--- of those that its receiver allows (RFC 9260, 5.1.1).
-abbrev pub terms_of_ack : Configuration → Draw → InitMeaning → Terms
-terms_of_ack c d m = record {
-  own_tsn = d.tsn;
-  peer_tsn = m.tsn;
-  outbound = min c.outbound m.inbound;
-  inbound = min m.outbound c.inbound;
-  interleave = agreed_interleave c m.parameters;
-  partial = agreed_partial c m.parameters;
-  reset = agreed_reset c m.parameters;
-}
-
--- The terms of a listener, by what its cookie says (5.1.3).
-abbrev pub terms_of_body : Body → Terms
-terms_of_body b = record {
-  own_tsn = b.listener.tsn;
-  peer_tsn = b.caller.tsn;
-  outbound = b.to_caller;
-  inbound = b.from_caller;
-  interleave = b.interleave;
-  partial = b.partial;
-  reset = b.reset;
-}
-
--- What an endpoint takes to be agreed on with a peer that is set up like itself, with these random values.
-abbrev pub terms_alike : Configuration → Draw → Draw → Terms
-terms_alike c own peer = record {
-  own_tsn = own.tsn;
-  peer_tsn = peer.tsn;
-  outbound = min c.outbound c.inbound;
-  inbound = min c.outbound c.inbound;
-  interleave = c.interleave;
-  partial = c.partial;
-  reset = c.reset;
-}
-
--- an endpoint that is opened without packets: established at once, its peer's window the buffer of its own
+-- an endpoint that is opened without packets: established at once, its peer's window its own
 abbrev pub opened : Configuration → Draw → Draw → EndView
-opened c own peer = record (joined (terms_alike c own peer) c.buffer (fresh_end c Paired Idle)) { phase = Open (tags_between own peer) Established }
+opened c own peer = beating (record (joined (terms_alike c own peer) (first_offer c) (fresh_end c Paired Idle)) { phase = Open (tags_between own peer) Established })
 
 -- ---- INIT (5.1.1)
 
@@ -87,7 +37,7 @@ opened c own peer = record (joined (terms_alike c own peer) c.buffer (fresh_end 
 -- streams (3.3.2).
 abbrev pub introduction : Configuration → Draw → List ℕ → InitMeaning
 introduction c d parameters =
-    record { tag = d.tag; rwnd = c.buffer; outbound = c.outbound; inbound = c.inbound; tsn = d.tsn; parameters = parameters }
+    record { tag = d.tag; rwnd = first_offer c; outbound = c.outbound; inbound = c.inbound; tsn = d.tsn; parameters = parameters }
 
 -- the caller's INIT (3.3.2): of parameters it has its options alone
 abbrev pub own_init : Configuration → Draw → ChunkMeaning
@@ -110,12 +60,14 @@ body_for e d m =
       partial = agreed_partial c m.parameters;
       interleave = agreed_interleave c m.parameters;
       reset = agreed_reset c m.parameters;
+      zero_checksum = agreed_zero_checksum c m.parameters;
     }
 
 -- the INIT ACK that holds these reports: the first parameter is the cookie, then the listener's options (3.3.3)
 abbrev pub init_ack_with : Sealing → EndView → Draw → InitMeaning → List Typed → ChunkMeaning
 init_ack_with s e d m reports =
-    InitAck (introduction e.configuration d (written (item STATE_COOKIE (s.sealed (body_for e d m)) ∷ (own_options e.configuration ++ reports))))
+    let options = own_options (said_to e.configuration m.parameters) in
+    InitAck (introduction e.configuration d (written (item STATE_COOKIE (s.sealed (body_for e d m)) ∷ (options ++ reports))))
 
 -- the unknown parameters of the INIT are reported as far as they fit (3.2.2)
 abbrev pub init_ack : Sealing → EndView → Draw → InitMeaning → ChunkMeaning
@@ -184,9 +136,9 @@ abbrev pub is_addressed : EndView → ℕ → Body → Bool
 is_addressed e tag b =
     (b.listener.port == e.configuration.own_port) && ((b.caller.port == e.configuration.peer_port) && (b.listener.tag == tag))
 
--- This listener could have made it: one that is set up without stream reset makes no cookie that says reset.
+-- This listener could have made it: one that is set up without stream reset, or without zero checksums, makes no cookie that says so.
 abbrev pub is_formed : EndView → Body → Bool
-is_formed e b = e.configuration.reset || not b.reset
+is_formed e b = (e.configuration.reset || not b.reset) && (e.configuration.zero_checksum || not b.zero_checksum)
 
 -- What a listener makes of a cookie (5.1.5): it opens, it would if it weren't too old, or it is nobody's.
 pub data CookieRead : Type 0 where
@@ -214,7 +166,8 @@ cookie_trip moment b = min (age moment b) LONGEST_WAIT
 -- The listener joins on the terms of its cookie, and a COOKIE ACK is due (5.1, D).
 abbrev pub begun : Body → EndView → EndView
 begun b e =
-    let t = measured (Some (cookie_trip e.moment b)) FIRST_WAIT (turned (Open (tags_of_body b) Established) (joined (terms_of_body b) b.rwnd e)) in
+    let x = turned (Open (tags_of_body b) Established) (joined (terms_of_body b) b.rwnd e) in
+    let t = beating (measured (Some (cookie_trip e.moment b)) e.configuration.first_wait x) in
     with_due (record t.due { cookie_ack = true }) t
 
 -- the two tags are the association's
@@ -250,7 +203,9 @@ is_echoing h = false
 
 -- The caller's association begins: its COOKIE ECHO is acknowledged (5.1, E).
 abbrev pub acknowledged_echo : Tags → EndView → EndView
-acknowledged_echo t e = measured (echo_trip e.moment (e.timers CookieAlarm)) (e.timers CookieAlarm).wait (turned (Open t Established) e)
+acknowledged_echo t e =
+    let trip = echo_trip e.configuration.first_wait e.moment (e.timers CookieAlarm) in
+    beating (measured trip (e.timers CookieAlarm).wait (turned (Open t Established) e))
 
 -- What a COOKIE ACK does (5.1, E).
 pub data CookieAckActs (e : EndView) : After → Type 0 where

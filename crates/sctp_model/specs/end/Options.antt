@@ -5,6 +5,7 @@ use Rattle.sctp_model.specs.wire.Unknown.{parameters_acted_on, first_of}
 use Rattle.sctp_model.specs.wire.Reconfig.{RECONFIG}
 use Rattle.sctp_model.specs.end.EndView.{Configuration}
 use Rattle.sctp_model.specs.end.Reports.{item}
+use Rattle.sctp_model.specs.sender.Outgoing.{are_listed}
 
 -- ---- the parameters that this endpoint knows
 
@@ -23,6 +24,14 @@ SUPPORTED_EXTENSIONS = 0x8008
 -- Forward-TSN-Supported (RFC 3758, 3.1)
 abbrev pub FORWARD_TSN_SUPPORTED : ℕ
 FORWARD_TSN_SUPPORTED = 0xC000
+
+-- Zero Checksum Acceptable (RFC 9653, 4)
+abbrev pub ZERO_CHECKSUM : ℕ
+ZERO_CHECKSUM = 0x8001
+
+-- its value for the one method that detects errors in place of the checksum: SCTP over DTLS, number 1 (RFC 9653, 4)
+abbrev pub OVER_DTLS : List ℕ
+OVER_DTLS = 0 ∷ 0 ∷ 0 ∷ 1 ∷ []
 
 -- the value of a parameter of a list, if it is acted on (RFC 9260, 3.2.1); of a repeated one the first counts
 abbrev pub value_of : ℕ → List ℕ → Option (List ℕ)
@@ -59,6 +68,15 @@ agreed_partial c bytes =
 abbrev pub agreed_reset : Configuration → List ℕ → Bool
 agreed_reset c bytes = c.reset && lists_type RECONFIG (value_of SUPPORTED_EXTENSIONS bytes)
 
+-- the value is this
+abbrev pub is_value : List ℕ → Option (List ℕ) → Bool
+is_value xs None = false
+is_value xs (Some ys) = are_listed xs ys
+
+-- zero checksums: both are set up for them, and say that DTLS is below (RFC 9653, 5)
+abbrev pub agreed_zero_checksum : Configuration → List ℕ → Bool
+agreed_zero_checksum c bytes = c.zero_checksum && is_value OVER_DTLS (value_of ZERO_CHECKSUM bytes)
+
 -- ---- an endpoint's own options
 
 -- the chunk types of its extensions, rising (RFC 5061, 4.2.7)
@@ -74,7 +92,18 @@ unless_empty (x ∷ xs) = item SUPPORTED_EXTENSIONS (x ∷ xs) ∷ []
 
 -- what an endpoint says of its options, in INIT and in INIT ACK (RFC 9260, 3.3.2 and 3.3.3)
 abbrev pub own_options : Configuration → List Typed
-own_options c = (if c.partial then item FORWARD_TSN_SUPPORTED [] ∷ [] else []) ++ unless_empty (own_extensions c)
+own_options c =
+    (if c.partial then item FORWARD_TSN_SUPPORTED [] ∷ [] else [])
+    ++ (unless_empty (own_extensions c) ++ (if c.zero_checksum then item ZERO_CHECKSUM OVER_DTLS ∷ [] else []))
+
+-- What an endpoint says of itself to one whose INIT carries these parameters: with `strict` what was agreed on alone.
+abbrev pub said_to : Configuration → (asked : List ℕ) → Configuration
+said_to c asked = record c {
+  interleave = if c.strict then agreed_interleave c asked else c.interleave;
+  partial = if c.strict then agreed_partial c asked else c.partial;
+  reset = if c.strict then agreed_reset c asked else c.reset;
+  zero_checksum = if c.strict then agreed_zero_checksum c asked else c.zero_checksum;
+}
 
 -- each of these parameters whole, as the value of a parameter that reports it
 abbrev pub reports_of : List Typed → List Typed

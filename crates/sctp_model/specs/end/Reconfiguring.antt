@@ -1,6 +1,5 @@
 -- What a RE-CONFIG does at an endpoint that has agreed on it: its parameters act one after the other (RFC 6525, 5.2).
 use Rattle.std.specs.Prelude.{ℕ, ◌==◌, Bool, true, false, ◌&&◌, if◌then◌else◌, List, [], ◌∷◌, ◌++◌, drop, is_some, Option, Some, None}
-use Rattle.sctp_model.specs.numbers.Limits.{FIRST_WAIT}
 use Rattle.sctp_model.specs.numbers.Numbers.{u32_at}
 use Rattle.sctp_model.specs.wire.Typed.{Typed}
 use Rattle.sctp_model.specs.wire.Reconfig.{RECONFIG, OUTGOING_RESET, RECONFIG_RESPONSE, reconfig_chunk, ResetMeaning, reset_read, is_parameter}
@@ -8,11 +7,12 @@ use Rattle.sctp_model.specs.wire.Reconfig.{is_other_request, response_item, Rese
 use Rattle.sctp_model.specs.sender.Resetting.{is_open_number, may_ask, asked, response_taken}
 use Rattle.sctp_model.specs.receiver.ReceiverView.{ReceiverView}
 use Rattle.sctp_model.specs.receiver.ResetTaken.{reset_answer, answer_in_turn, reset_taken, denied, with_answers}
-use Rattle.sctp_model.specs.end.EndView.{ResetAlarm, EndView, unused_timer}
+use Rattle.sctp_model.specs.end.EndView.{ResetAlarm, EndView, unused_timer, waits_of}
 use Rattle.sctp_model.specs.end.Pacing.{Pace, wait_measured}
 use Rattle.sctp_model.specs.end.Clock.{is_home, with_timer, restarted}
 use Rattle.sctp_model.specs.end.Closing.{with_due, takes_data, hears}
 use Rattle.sctp_model.specs.end.Reports.{fits_alone}
+use Rattle.sctp_model.specs.end.Trips.{RtoBounds}
 
 -- ---- responses that wait for a packet
 
@@ -37,16 +37,18 @@ other_heard e number = answering e number (answer_in_turn e.receiver number Deni
 
 -- If no request is outstanding, none is due, and its timer is as if it had never run: the expiries of one request don't count for the next (RFC 9260, 8.1).
 abbrev pub asking_on : EndView → EndView
-asking_on e = if is_some e.sender.resets.pending then e else with_timer ResetAlarm unused_timer (with_due (record e.due { request = false }) e)
+asking_on e =
+    if is_some e.sender.resets.pending then e
+    else with_timer ResetAlarm (unused_timer e.configuration.first_wait) (with_due (record e.due { request = false }) e)
 
 -- how long the timer of a request waits: the RTO, if a round trip was measured (5.1.1; RFC 9260, 6.3.1)
-abbrev pub request_wait : (least : ℕ) → Option Pace → ℕ
-request_wait least None = FIRST_WAIT
-request_wait least (Some p) = wait_measured least p.trips.smoothed
+abbrev pub request_wait : RtoBounds → Option Pace → ℕ
+request_wait w None = w.first
+request_wait w (Some p) = wait_measured w p.trips.smoothed
 
 -- that of this endpoint
 abbrev pub asking_wait : EndView → ℕ
-asking_wait e = request_wait e.configuration.least_wait e.pace
+asking_wait e = request_wait (waits_of e.configuration) e.pace
 
 -- If the response leaves the request outstanding, its timer starts again (5.2.7), with the wait of a new one and the count 0: a peer that answers isn't given
 -- up.
@@ -81,7 +83,7 @@ takes_reconfig e kind = (kind == RECONFIG) && (e.terms.reset && hears takes_data
 abbrev pub asking_now : Bool → EndView → EndView
 asking_now false e = e
 asking_now true e =
-    with_timer ResetAlarm (record unused_timer { wait = asking_wait e }) (record e { sender = asked e.sender; due = record e.due { request = true } })
+    with_timer ResetAlarm (unused_timer (asking_wait e)) (record e { sender = asked e.sender; due = record e.due { request = true } })
 
 -- An endpoint in ESTABLISHED makes its request as soon as it may.
 abbrev pub asking : EndView → EndView

@@ -19,6 +19,7 @@ pub record Body : Type 0 where
   pub partial : Bool
   pub interleave : Bool
   pub reset : Bool
+  pub zero_checksum : Bool
 
 -- a port of 16 bits, a tag and a TSN of 32
 pub record IsPartyInRange (x : Party) : Type 0 where

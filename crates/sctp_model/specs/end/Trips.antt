@@ -37,9 +37,15 @@ abbrev pub smoothed_by : Option Smoothed → (trip : ℕ) → Smoothed
 smoothed_by None r = record { eight = 8 * r; four = 2 * r }
 smoothed_by (Some s) r = record { eight = s.eight - s.eight / 8 + r; four = s.four - s.four / 4 + distance (s.eight / 8) r }
 
+-- RTO.Initial, RTO.Min and RTO.Max (RFC 9260, 16)
+pub record RtoBounds : Type 0 where
+  pub first : ℕ
+  pub least : ℕ
+  pub longest : ℕ
+
 -- The RTO: SRTT and four times RTTVAR (C2 and C3), with an RTTVAR of one tick at least (G1), from RTO.Min to RTO.Max (C6 and C7).
-abbrev pub wait_of : (least : ℕ) → Smoothed → ℕ
-wait_of least s = min LONGEST_WAIT (max least (s.eight / 8 + max (4 * TICK) s.four))
+abbrev pub wait_of : RtoBounds → Smoothed → ℕ
+wait_of w s = min w.longest (max w.least (s.eight / 8 + max (4 * TICK) s.four))
 
 -- ---- what is timed
 

@@ -1,8 +1,9 @@
 -- What the user of an endpoint calls, and what each call returns (RFC 9260, 11.1).
-use Rattle.std.specs.Prelude.{◌≡◌, ℕ, suc, nat_le, Bool, true, false, not, ◌&&◌, if◌then◌else◌, List, find, Option, Some, None, is_some}
+use Rattle.std.specs.Prelude.{◌≡◌, ℕ, suc, ◌+◌, nat_le, Bool, true, false, not, ◌&&◌, ◌||◌, if◌then◌else◌, List, find, Option, Some, None, is_some}
+use Rattle.std.specs.Int.{div_ceil}
 use Rattle.sctp_model.specs.wire.Packet.{Packet, size_of_packet}
 use Rattle.sctp_model.specs.world.Calls.{Call}
-use Rattle.sctp_model.specs.receiver.ReceiverView.{Handed, ReceiverView}
+use Rattle.sctp_model.specs.receiver.ReceiverView.{Handed, ReceiverView, room_left}
 use Rattle.sctp_model.specs.sender.Queueing.{Refusal, refusal, queued}
 use Rattle.sctp_model.specs.sender.Abandoning.{AbandonAnswer, abandon_answer, abandon_after}
 use Rattle.sctp_model.specs.receiver.SackMade.{TakeLeaves}
@@ -12,7 +13,7 @@ use Rattle.sctp_model.specs.sender.Resetting.{resetting}
 use Rattle.sctp_model.specs.end.EndView.{Draw, AbortedHere, Stage, Established, ShutdownPending, ShutdownSent, ShutdownReceived, ShutdownAckSent, Phase}
 use Rattle.sctp_model.specs.end.EndView.{Idle, Listening, Calling, Echoing, Open, Over, EndView}
 use Rattle.sctp_model.specs.end.Clock.{turned, closed}
-use Rattle.sctp_model.specs.end.Closing.{with_due, rested, hears}
+use Rattle.sctp_model.specs.end.Closing.{with_due, takes_data, rested, hears}
 use Rattle.sctp_model.specs.end.Reports.{item, USER_ABORT}
 use Rattle.sctp_model.specs.end.PeerFaults.{packet_to, abort_for}
 use Rattle.sctp_model.specs.end.Moments.{after_abandoning}
@@ -85,11 +86,19 @@ abandoned_at e ticket =
 
 -- ---- take (11.1.6)
 
+-- The window has grown by a quarter of the buffer at least since it was advertised last (6.2), and the peer may still send.
+abbrev pub is_update : EndView → Bool
+is_update e = e.configuration.updates && (hears takes_data e.phase && nat_le (e.offered + div_ceil e.configuration.buffer 4) (room_left e.receiver))
+
+-- then a SACK is due
+abbrev pub updating : EndView → EndView
+updating e = record e { due = record e.due { sack = e.due.sack || is_update e } }
+
 -- What taking a message leaves (11.1.6).
 pub record UserTakes (e : EndView) (stream : ℕ) (answer : Option Handed) (t : EndView) : Type 0 where
   pub receiver : ReceiverView
   pub takes : TakeLeaves e.receiver stream answer receiver
-  pub leaves : t ≡ record e { receiver = receiver }
+  pub leaves : t ≡ updating (record e { receiver = receiver })
 
 -- ---- shutdown (11.1.3)
 

@@ -126,6 +126,10 @@ TICK = 1
 
 -- ---- congestion control
 
+-- the packets by which an acknowledgement may open the congestion window in slow start, at most (L of RFC 9260, 7.2.1)
+abbrev pub GREATEST_GROWTH : ℕ
+GREATEST_GROWTH = 16
+
 -- packets that may be sent for one acknowledgement (Max.Burst of RFC 9260, 16)
 abbrev pub BURST : ℕ
 BURST = 4

@@ -1,5 +1,5 @@
 -- A data chunk arrives at a receiver: which answer it gets, and what that leaves (RFC 9260, 6.2 and 6.6; RFC 3758, 3.6; RFC 8260, 2.2).
-use Rattle.std.specs.Prelude.{◌≡◌, ℕ, ◌+◌, Bool, false, ◌||◌, ◌&&◌, nat_lt, nat_le, ◌==◌, List, [], ◌∷◌, ◌++◌, length, take}
+use Rattle.std.specs.Prelude.{◌≡◌, ℕ, suc, ◌+◌, if◌then◌else◌, Bool, false, ◌||◌, ◌&&◌, nat_lt, nat_le, ◌==◌, List, [], ◌∷◌, ◌++◌, length, take, not}
 use Rattle.sctp_model.specs.numbers.Limits.{DUPLICATE_LIMIT}
 use Rattle.sctp_model.specs.wire.Chunk.{PieceMeaning}
 use Rattle.sctp_model.specs.messages.Format.{Format, Plain, Interleaved, is_numbered, same_lane}
@@ -44,15 +44,31 @@ is_repeated Interleaved kept x = is_held kept x
 abbrev pub is_passed : Format → ReceiverView → Piece → Bool
 is_passed f r x = (is_numbered f x.lane.kind && is_late r x.lane x.number) || is_repeated f r.kept x
 
--- ---- THE TABLE OF ANSWERS
-
 -- the TSN is old, or was recorded
 abbrev pub is_duplicate : Format → ReceiverView → (c : ℕ) → PieceMeaning → Bool
 is_duplicate f r c p = is_behind r c p.tsn || r.seen (piece_at f r c p).index
 
--- the data would fill more than the buffer
-abbrev pub is_too_much : ReceiverView → PieceMeaning → Bool
-is_too_much r p = nat_lt r.buffer (held_bytes r + length p.bytes)
+-- ---- a chunk that no sender may send (RFC 8260, 2.1)
+
+-- an I-DATA without B that says the fragment number of the first fragment
+abbrev pub is_beginless : Format → PieceMeaning → Bool
+is_beginless Plain p = false
+is_beginless Interleaved p = not p.begin && (p.word == 0)
+
+-- it is that, or a fragment that is held already, under a TSN that is new
+abbrev pub is_misnumbered : Format → ReceiverView → (c : ℕ) → PieceMeaning → Bool
+is_misnumbered f r c p =
+    is_beginless f p || (not (is_duplicate f r c p || is_ahead r c p.tsn) && is_repeated f r.kept (piece_at f r c p))
+
+-- ---- THE TABLE OF ANSWERS
+
+-- the space that a chunk with this index has to leave: the next one expected may fill the buffer, one after a gap leaves the reserve
+abbrev pub left_free : ReceiverView → (c index : ℕ) → ℕ
+left_free r c i = if i == suc c then 0 else r.reserve
+
+-- the data would fill more than the buffer, or than the reserve leaves of it
+abbrev pub is_too_much : Format → ReceiverView → (c : ℕ) → PieceMeaning → Bool
+is_too_much f r c p = nat_lt r.buffer (held_bytes r + length p.bytes + left_free r c (piece_at f r c p).index)
 
 -- The rows in their order; below them all it is taken.
 abbrev pub answer_to : Format → ReceiverView → (c : ℕ) → PieceMeaning → PieceAnswer
@@ -61,7 +77,7 @@ answer_to f r c p = first_of
     ∷ (is_ahead r c p.tsn, Ahead)
     ∷ (nat_le r.streams p.stream, NoSuchStream)
     ∷ (is_passed f r (piece_at f r c p), Passed)
-    ∷ (is_too_much r p, NoRoom)
+    ∷ (is_too_much f r c p, NoRoom)
     ∷ [])
     Kept
 

@@ -104,8 +104,8 @@ abbrev pub is_done_again : Option Waited → ResetMeaning → Bool
 is_done_again None m = false
 is_done_again (Some w) m = w.done && ((w.last == m.last) && are_listed w.streams m.streams)
 
--- The request was performed before: in progress under one sequence number, performed when it arrived again, and retried with the next number before the peer had
--- learned that (5.2.7). Its streams begin anew again, where they already do; nothing more is to be reported.
+-- The request was performed before: in progress under one sequence number, performed when it arrived again, and retried with the next number before the peer
+-- had learned that (5.2.7). Its streams begin anew again, where they already do; nothing more is to be reported.
 abbrev pub was_performed : ReceiverView → ResetMeaning → Bool
 was_performed r m = is_done_again r.resets.waited m
 

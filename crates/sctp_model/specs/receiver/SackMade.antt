@@ -1,6 +1,5 @@
 -- What a receiver says in a SACK (RFC 9260, 3.3.4 and 6.2.1), and what it is once that was sent, and once the user took a message.
 use Rattle.std.specs.Prelude.{◌≡◌, ℕ, ◌<◌, List, [], ◌∷◌, ◌++◌, take, Option, Some, None}
-use Rattle.sctp_model.specs.numbers.Limits.{BLOCK_LIMIT}
 use Rattle.sctp_model.specs.numbers.Lists.{Has, AreInOrder, at}
 use Rattle.sctp_model.specs.numbers.Serial.{tsn}
 use Rattle.sctp_model.specs.wire.Chunk.{BlockMeaning, SackMeaning}
@@ -21,22 +20,22 @@ pub record AreAllRuns (r : ReceiverView) (c : ℕ) (bs : List BlockMeaning) : Ty
 
 -- ---- THE SACK
 
--- its words, from the cumulative index and all runs: of these the lowest, as many as a SACK may have
-abbrev pub sack_of : ReceiverView → (c : ℕ) → List BlockMeaning → SackMeaning
-sack_of r c runs = record {
+-- its words, from the cumulative index and all runs: of these the lowest, and at most this many
+abbrev pub sack_of : (most : ℕ) → ReceiverView → (c : ℕ) → List BlockMeaning → SackMeaning
+sack_of most r c runs = record {
   cumulative = tsn r.initial c;
   rwnd = room_left r;
-  blocks = take BLOCK_LIMIT runs;
+  blocks = take most runs;
   duplicates = r.duplicates;
 }
 
--- THE SACK OF A VIEW
-pub record IsSack (r : ReceiverView) (s : SackMeaning) : Type 0 where
+-- THE SACK OF A VIEW, with at most this many gap blocks
+pub record IsSack (most : ℕ) (r : ReceiverView) (s : SackMeaning) : Type 0 where
   pub c : ℕ
   pub runs : List BlockMeaning
   pub cumulative : IsCumulative r c
   pub all : AreAllRuns r c runs
-  pub is : s ≡ sack_of r c runs
+  pub is : s ≡ sack_of most r c runs
 
 -- When it was sent, the duplicates that it reported are forgotten.
 abbrev pub sack_sent : ReceiverView → ReceiverView

@@ -1,12 +1,12 @@
 -- A message that the user sends: cut into fragments (RFC 9260, 6.9) and queued, or refused for the first reason that there is.
-use Rattle.std.specs.Prelude.{ℕ, suc, ◌+◌, ◌*◌, ◌==◌, min, nat_lt, nat_le, not, ◌||◌, List, [], ◌∷◌, ◌++◌, length, map, take, drop, Option}
+use Rattle.std.specs.Prelude.{ℕ, suc, ◌+◌, ◌*◌, ◌==◌, min, nat_lt, nat_le, not, ◌||◌, Bool, List, [], ◌∷◌, ◌++◌, length, map, take, drop, Option}
 use Rattle.std.specs.Int.{div_ceil}
-use Rattle.sctp_model.specs.numbers.Limits.{LONGEST_MESSAGE, QUEUE_LIMIT, TICKET_LIMIT, TSN_LIMIT}
+use Rattle.sctp_model.specs.numbers.Limits.{QUEUE_LIMIT, TICKET_LIMIT, TSN_LIMIT}
 use Rattle.sctp_model.specs.messages.Format.{Lane}
 use Rattle.sctp_model.specs.messages.Plan.{Message}
 use Rattle.sctp_model.specs.sender.Outgoing.{is_sending}
 use Rattle.sctp_model.specs.sender.SenderView.{Queued, SenderView}
-use Rattle.sctp_model.specs.sender.Words.{when, first_there, count_up}
+use Rattle.sctp_model.specs.sender.Words.{when, first_there, some_passes, count_up}
 use Rattle.sctp_model.specs.sender.Entries.{sum_below, continued, fragments_from}
 
 -- ---- fragments
@@ -46,8 +46,22 @@ pub data Refusal : Type 0 where
   NoSuchStream Empty TooLong : Refusal
   -- the stream is being reset, or the peer refused to
   Resetting : Refusal
-  -- no further message may wait; tickets or TSNs would run out
+  -- no further message may wait, or no more of its bytes; tickets or TSNs would run out
   QueueFull Spent : Refusal
+
+-- the bytes of these fragments
+abbrev pub size_of_fragments : List (List ℕ) → ℕ
+size_of_fragments [] = 0
+size_of_fragments (x ∷ xs) = length x + size_of_fragments xs
+
+-- the bytes of the messages that wait for TSNs
+abbrev pub queued_bytes : List Queued → ℕ
+queued_bytes [] = 0
+queued_bytes (q ∷ qs) = size_of_fragments q.message.fragments + queued_bytes qs
+
+-- with this message more bytes would wait than may
+abbrev pub is_over : SenderView → (bytes : List ℕ) → Bool
+is_over v bytes = some_passes (λ most. nat_lt most (queued_bytes v.queue + length bytes)) v.limits.queue
 
 -- The first of these reasons that holds.
 abbrev pub refusal : SenderView → (stream : ℕ) → (bytes : List ℕ) → Option Refusal
@@ -55,8 +69,8 @@ refusal v stream bytes = first_there (
     when (nat_le v.streams stream) NoSuchStream
     ∷ when (not (is_sending (v.resets.sending stream))) Resetting
     ∷ when (length bytes == 0) Empty
-    ∷ when (nat_lt LONGEST_MESSAGE (length bytes)) TooLong
-    ∷ when (nat_le QUEUE_LIMIT (length v.queue)) QueueFull
+    ∷ when (nat_lt v.limits.message (length bytes)) TooLong
+    ∷ when (nat_le QUEUE_LIMIT (length v.queue) || is_over v bytes) QueueFull
     ∷ when (nat_le TICKET_LIMIT v.tickets || nat_lt TSN_LIMIT (promised v + owed_for (length (cut v.fragment bytes)))) Spent
     ∷ [])
 

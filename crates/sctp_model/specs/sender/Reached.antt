@@ -3,7 +3,7 @@ use Rattle.std.specs.Prelude.{◌≡◌, ℕ, ◌<◌, Bool, true, List, Option,
 use Rattle.sctp_model.specs.messages.Format.{Format, Lane}
 use Rattle.sctp_model.specs.wire.Chunk.{SackMeaning}
 use Rattle.sctp_model.specs.sender.Outgoing.{Outgoing}
-use Rattle.sctp_model.specs.sender.SenderView.{SenderView, fresh_sender}
+use Rattle.sctp_model.specs.sender.SenderView.{SenderView, fresh_sender, SendLimits}
 use Rattle.sctp_model.specs.sender.Queueing.{refusal, queued}
 use Rattle.sctp_model.specs.sender.Filling.{Wish, next_wish, may_go, gone}
 use Rattle.sctp_model.specs.sender.SackTaken.{sack_fault, sack_taken, shutdown_fault, shutdown_taken}
@@ -12,7 +12,8 @@ use Rattle.sctp_model.specs.sender.Abandoning.{abandon_after, marking}
 -- One step each: a message is queued, a wish goes into a packet, a SACK or a SHUTDOWN is taken, a ticket is abandoned; indexes are marked for
 -- retransmission, since the data timer expired or they were missed; and what it knows of resets may be anything.
 pub data IsReached (f : Format) : SenderView → Type 0 where
-  Begins : (initial streams fragment rwnd : ℕ) (partial : Bool) → 0 < fragment → IsReached f (fresh_sender initial streams fragment rwnd partial)
+  Begins : (initial streams fragment rwnd : ℕ) (partial : Bool) (limits : SendLimits) → 0 < fragment
+      → IsReached f (fresh_sender initial streams fragment rwnd partial limits)
   Queues : (v : SenderView) (lane : Lane) (payload : ℕ) (bytes : List ℕ) (until limit : Option ℕ) → IsReached f v → refusal v lane.stream bytes ≡ None
       → IsReached f (queued v lane payload bytes until limit)
   Goes : (v : SenderView) (room : ℕ) (w : Wish) → IsReached f v → next_wish f v ≡ Some w → may_go f room w ≡ true → IsReached f (gone w)

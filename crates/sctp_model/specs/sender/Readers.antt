@@ -1,9 +1,9 @@
 -- What a sender reports of itself, and of a message by its ticket.
-use Rattle.std.specs.Prelude.{ℕ, suc, ◌+◌, ◌-◌, ◌==◌, if◌then◌else◌, Bool, not, ◌&&◌, ◌||◌, List, [], ◌∷◌, length, drop}
+use Rattle.std.specs.Prelude.{ℕ, suc, ◌+◌, ◌-◌, ◌==◌, if◌then◌else◌, Bool, not, ◌&&◌, ◌||◌, List, [], ◌∷◌, length, drop, is_some}
 use Rattle.sctp_model.specs.messages.Plan.{Entry}
 use Rattle.sctp_model.specs.sender.SenderView.{SenderView}
-use Rattle.sctp_model.specs.sender.Words.{some_passes}
-use Rattle.sctp_model.specs.sender.Entries.{is_of_abandoned, is_unsettled, some_entry, in_part}
+use Rattle.sctp_model.specs.sender.Words.{some_passes, lowest}
+use Rattle.sctp_model.specs.sender.Entries.{is_of_abandoned, is_unsettled, some_entry, in_part, is_unsent}
 use Rattle.sctp_model.specs.sender.Abandoning.{Name, name_of, is_covered, is_abandoned}
 
 -- ---- of all
@@ -24,6 +24,10 @@ unsettled v = some_entry v (is_unsettled v) || not (point v == v.cum)
 -- how many indexes are assigned above CUM, and how many messages are in part
 abbrev pub outstanding : SenderView → ℕ
 outstanding v = length v.plan.entries - v.cum + in_part v
+
+-- Something waits to be sent: a fragment that is marked or was never sent, a message without TSNs, or the rest of one.
+abbrev pub has_more : SenderView → Bool
+has_more v = is_some (lowest v.marked (length v.plan.entries)) || (some_entry v (is_unsent v) || not ((length v.queue == 0) && (in_part v == 0)))
 
 -- no message waits, none is in part, and CUM is the last index assigned (RFC 9260, 9.2)
 abbrev pub drained : SenderView → Bool

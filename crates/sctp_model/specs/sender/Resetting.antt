@@ -121,7 +121,11 @@ kept_asking v q = numbered_so v v.resets.made NextNumber q
 abbrev pub numbering_of : Request → (number : ℕ) → Numbering
 numbering_of q n = if n == q.first then FirstNumber else LaterNumber
 
--- The peer expects another number than the one after a number that was in progress: so it hasn't counted that one, which is tried again. A peer that counts
+-- The number that it has isn't its first, whether it is in progress under it or not.
+abbrev pub is_past_first : SenderView → Request → Bool
+is_past_first v q = is_later (numbering_of q v.resets.made)
+
+-- The peer expects another number than one after a number that was in progress: so it hasn't counted the one before, which is tried again. A peer that counts
 -- none of those leads back to the first, one by one.
 abbrev pub number_back : SenderView → Request → SenderView
 number_back v q = numbered_so v (v.resets.made - 1) (numbering_of q (v.resets.made - 1)) q
@@ -131,7 +135,7 @@ abbrev pub reset_answered : SenderView → (code : ℕ) → Request → SenderVi
 reset_answered v code q =
     if is_done_code code then reset_done v q
     else if is_progress_code code then kept_asking v q
-    else if is_number_code code && is_later q.numbering then number_back v q
+    else if is_number_code code && is_past_first v q then number_back v q
     else reset_refused v q
 
 -- the number is that of the outstanding request

@@ -22,9 +22,9 @@ parameter_rule kind = rule_of 16 kind
 
 -- ---- parameters
 
--- State Cookie, Unrecognized Parameter, Supported Extensions, Forward-TSN-Supported
+-- State Cookie, Unrecognized Parameter, Zero Checksum Acceptable, Supported Extensions, Forward-TSN-Supported
 abbrev pub is_known_parameter : ℕ → Bool
-is_known_parameter kind = (kind == 7) || (kind == 8) || (kind == 32776) || (kind == 49152)
+is_known_parameter kind = (kind == 7) || (kind == 8) || (kind == 32769) || (kind == 32776) || (kind == 49152)
 
 -- both addresses, Cookie Preservative, host name, supported address types: skipped without a report
 abbrev pub is_passed_over : ℕ → Bool

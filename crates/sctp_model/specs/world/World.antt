@@ -144,12 +144,13 @@ configuration_of s B = record (s.of_b) { own_port = s.b_port; peer_port = s.a_po
 abbrev pub is_shared : Bool → Bool → Bool
 is_shared a b = if a then b else not b
 
--- They may be opened without packets, since they would agree: on as many streams each way, on the format, and on partial reliability and stream reset,
--- which both have or neither has (RFC 9260, 5.1.1).
+-- They may be opened without packets, since they would agree: on as many streams each way, on the format, and on partial reliability, stream reset and zero
+-- checksums, which both have or neither has (RFC 9260, 5.1.1).
 abbrev pub are_alike : Configuration → Configuration → Bool
 are_alike c d =
     (min d.outbound d.inbound == min c.outbound c.inbound) &&
-    (is_shared d.interleave c.interleave && (is_shared d.partial c.partial && is_shared d.reset c.reset))
+    (is_shared d.interleave c.interleave
+    && (is_shared d.partial c.partial && (is_shared d.reset c.reset && is_shared d.zero_checksum c.zero_checksum)))
 
 -- a user who has asked for nothing yet
 abbrev pub no_log : Log

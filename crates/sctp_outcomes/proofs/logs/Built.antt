@@ -9,7 +9,7 @@ use Rattle.sctp_model.specs.sender.SenderView.{SenderView}
 use Rattle.sctp_model.specs.sender.Reached.{IsReached, Rebases}
 use Rattle.sctp_model.specs.end.EndView.{Configuration, EndView, format_of, Terms, format_for}
 use Rattle.sctp_model.specs.end.Clock.{at_moment}
-use Rattle.sctp_model.specs.end.Building.{Slot, Puts, NoMore, NotDue, Put, IsFull, Builds, Sleeps, Waits, Calls, Echoes, EndsFull, Fills, EchoSlot, CookieAckSlot, HeartbeatSlot, ErrorSlot, SackSlot, ForwardSlot, ShutdownSlot, ShutdownAckSlot, once_built, sent, filled_behind, fragments, room_behind, AnswerSlot, RequestSlot}
+use Rattle.sctp_model.specs.end.Building.{Slot, Puts, NoMore, NotDue, Put, IsFull, Builds, Sleeps, Waits, Calls, Echoes, EndsFull, Fills, EchoSlot, CookieAckSlot, HeartbeatSlot, BeatSlot, ErrorSlot, SackSlot, ForwardSlot, ShutdownSlot, ShutdownAckSlot, once_built, sent, filled_behind, fragments, room_behind, AnswerSlot, RequestSlot}
 use Rattle.sctp_model.specs.sender.Filling.{Wish, newly_numbered, begun_tickets}
 use Rattle.sctp_model.specs.sender.SentChunks.{chunk_of}
 use Rattle.sctp_outcomes.specs.Kept.{is_before, IsNamed, IsSound, KeepsLogs, AddsNumbers, BuildsAddNumbers, EmptyBuildsKeepLogs, numbered}
@@ -49,6 +49,7 @@ once_put : (s : Slot) (e : EndView) → IsPut e (once_built s e)
 once_put EchoSlot e = record { sender = refl; same = record { taken = refl; buffer = refl }; configuration = refl; phase = refl; format = refl }
 once_put CookieAckSlot e = record { sender = refl; same = record { taken = refl; buffer = refl }; configuration = refl; phase = refl; format = refl }
 once_put HeartbeatSlot e = record { sender = refl; same = record { taken = refl; buffer = refl }; configuration = refl; phase = refl; format = refl }
+once_put BeatSlot e = record { sender = refl; same = record { taken = refl; buffer = refl }; configuration = refl; phase = refl; format = refl }
 once_put ErrorSlot e = record { sender = refl; same = record { taken = refl; buffer = refl }; configuration = refl; phase = refl; format = refl }
 once_put SackSlot e = record { sender = refl; same = record { taken = refl; buffer = refl }; configuration = refl; phase = refl; format = refl }
 once_put ForwardSlot e = record { sender = refl; same = record { taken = refl; buffer = refl }; configuration = refl; phase = refl; format = refl }

@@ -9,7 +9,7 @@ use Rattle.sctp_model.specs.end.EndView.{AbortedHere, Phase, Idle, Listening, Ca
 use Rattle.sctp_model.specs.end.Clock.{closed, turned}
 use Rattle.sctp_model.specs.end.Closing.{hears, rested}
 use Rattle.sctp_model.specs.end.Moments.{after_abandoning}
-use Rattle.sctp_model.specs.end.UserCalls.{Called, connect_answer, Aborts, NoPeer, TooLong, is_established, answer_for, NotOpen, send_leaves, is_open, shut_in, Begun, NotAgreed, NoStream, reset_leaves, reset_there, told_leaves}
+use Rattle.sctp_model.specs.end.UserCalls.{updating, Called, connect_answer, Aborts, NoPeer, TooLong, is_established, answer_for, NotOpen, send_leaves, is_open, shut_in, Begun, NotAgreed, NoStream, reset_leaves, reset_there, told_leaves}
 use Rattle.sctp_outcomes.specs.Kept.{is_before, IsSound, IsUnused, KeepsLogs, ConnectKeepsLogs, ShutdownKeepsLogs, AbortKeepsLogs, AbandonKeepsLogs, SendNotes, SendGivesTickets, TakeNotes, TakeTakesOne, ResetKeepsLogs, ToldKeepsLogs}
 use Rattle.sctp_outcomes.proofs.logs.Senders.{abandoned_keeps}
 use Rattle.sctp_outcomes.proofs.logs.Ends.{abandoning_keeps, never, heard_after, keeps_itself, keeps_on, same_keeps, sender_keeps, rested_keeps, joined_keeps}
@@ -116,7 +116,7 @@ told_keeps_logs e s = go (reset_there e) refl (is_before e.phase) refl
 nothing_waits : (e : EndView) (n : ℕ) (h : Handed) (rest : List Handed) → IsUnused e → e.receiver.waiting n ≡ h ∷ rest → ⊥
 nothing_waits e n h rest u waits = let q : [] ≡ h ∷ rest = subst (λ (r : ReceiverView). r.waiting n ≡ h ∷ rest) u.receiver waits in absurd (cc)
 
-take_notes : (e : EndView) (n : ℕ) (h : Option Handed) (r : ReceiverView) → IsSound e → TakeLeaves e.receiver n h r → TakeNotes h n e (record e { receiver = r })
+take_notes : (e : EndView) (n : ℕ) (h : Option Handed) (r : ReceiverView) → IsSound e → TakeLeaves e.receiver n h r → TakeNotes h n e (updating (record e { receiver = r }))
 take_notes e n None r s (none, is) = same_keeps e _ refl is refl (λ on. on) s
 take_notes e n (Some h) r s (rest, waits, is) = record {
   sound = record { bare = λ on. absurd (nothing_waits e n h rest (s.bare on) waits); buffer = ap (λ (x : ReceiverView). x.buffer) is ∙ s.buffer; named = s.named };

@@ -4,7 +4,7 @@ use Rattle.sctp_model.specs.messages.Plan.{Plan}
 use Rattle.sctp_model.specs.sender.SenderView.{SenderView, fresh_sender}
 use Rattle.sctp_model.specs.sender.Filling.{begun_tickets}
 use Rattle.sctp_model.specs.receiver.ReceiverView.{ReceiverView, fresh_receiver}
-use Rattle.sctp_model.specs.end.EndView.{Configuration, Stage, Phase, Idle, Listening, Calling, Echoing, Open, Over, EndView}
+use Rattle.sctp_model.specs.end.EndView.{Configuration, Stage, Phase, Idle, Listening, Calling, Echoing, Open, Over, EndView, send_limits}
 use Rattle.sctp_model.specs.sender.Readers.{point}
 use Rattle.sctp_model.specs.end.Clock.{settled}
 use Rattle.sctp_model.specs.end.Closing.{hears, rested}
@@ -41,8 +41,8 @@ pub same_keeps : (e t : EndView) → t.sender ≡ e.sender → t.receiver ≡ e.
 same_keeps e t sender receiver configuration before s = record {
   sound = record {
     bare = λ on. let u = s.bare (before on) in record {
-      sender = sender ∙ u.sender ∙ ap (λ (c : Configuration). fresh_sender 0 0 c.fragment 0 false) (sym configuration);
-      receiver = receiver ∙ u.receiver ∙ ap (λ (c : Configuration). fresh_receiver 0 0 c.buffer) (sym configuration);
+      sender = sender ∙ u.sender ∙ ap (λ (c : Configuration). fresh_sender 0 0 c.fragment 0 false (send_limits c)) (sym configuration);
+      receiver = receiver ∙ u.receiver ∙ ap (λ (c : Configuration). fresh_receiver 0 0 c.buffer c.reserve) (sym configuration);
     };
     buffer = ap (λ (r : ReceiverView). r.buffer) receiver ∙ s.buffer ∙ ap (λ (c : Configuration). c.buffer) (sym configuration);
     named = subst (λ (v : SenderView). IsNamed v.plan) (sym sender) s.named;
@@ -78,8 +78,8 @@ pub sender_keeps : (e t : EndView) → KeepsNumbers e.sender t.sender → t.rece
 sender_keeps e t k receiver configuration phase s = record {
   sound = record {
     bare = λ on. let u = s.bare (ap is_before (sym phase) ∙ on) in record {
-      sender = k.new e.configuration.fragment u.sender ∙ ap (λ (c : Configuration). fresh_sender 0 0 c.fragment 0 false) (sym configuration);
-      receiver = receiver ∙ u.receiver ∙ ap (λ (c : Configuration). fresh_receiver 0 0 c.buffer) (sym configuration);
+      sender = k.new e.configuration.fragment (send_limits e.configuration) u.sender ∙ ap (λ (c : Configuration). fresh_sender 0 0 c.fragment 0 false (send_limits c)) (sym configuration);
+      receiver = receiver ∙ u.receiver ∙ ap (λ (c : Configuration). fresh_receiver 0 0 c.buffer c.reserve) (sym configuration);
     };
     buffer = ap (λ (r : ReceiverView). r.buffer) receiver ∙ s.buffer ∙ ap (λ (c : Configuration). c.buffer) (sym configuration);
     named = k.named s.named;

@@ -16,7 +16,8 @@ use Rattle.sctp_model.specs.end.Clock.{at_moment, closed}
 use Rattle.sctp_model.specs.end.Closing.{takes_acknowledgements, rested, takes_data, hears}
 use Rattle.sctp_model.specs.end.PeerFaults.{GoesOn, Ends, Replies, Note}
 use Rattle.sctp_model.specs.end.Opening.{AcceptedAck, RefusedAck, EchoedAgain, CookieAcked, begun}
-use Rattle.sctp_model.specs.end.Acting.{Acts, ForwardComes, PieceComes, IsOld, SackStale, ShutdownStale, HeartbeatCounts, SackCounts, ShutdownCounts, Closes, SaysNothing, Crosses, Again, AckCompletes, CompleteCompleted, PieceEmpty, WrongFormat, SackWrong, ShutdownWrong, WrongKind, IsBad, ReconfigComes, IsUnknown}
+use Rattle.sctp_model.specs.end.Beating.{beat_heard}
+use Rattle.sctp_model.specs.end.Acting.{Acts, ForwardComes, PieceComes, IsOld, SackStale, ShutdownStale, HeartbeatCounts, SackCounts, ShutdownCounts, Closes, SaysNothing, Crosses, Again, AckCompletes, CompleteCompleted, PieceEmpty, WrongFormat, SackWrong, ShutdownWrong, WrongKind, IsBad, ReconfigComes, IsUnknown, Misnumbered}
 use Rattle.sctp_model.specs.end.Strays.{Verdict, seal_at, listens, holds_abort, body_in, body_among}
 use Rattle.sctp_model.specs.sender.Abandoning.{worn}
 use Rattle.sctp_model.specs.end.Wearing.{missed_below, wearing}
@@ -82,14 +83,14 @@ open_after e h after is = ap is_before is ∙ after
 
 -- one after which the packet goes on
 pub goes_keeps : (e : EndView) (tag : ℕ) (x : ChunkMeaning) (y : Note) (t : EndView) → IsSound e → Acts e tag x (GoesOn y t) → KeepsLogs e t
-goes_keeps e tag (Data p) y t s (PieceComes u g a r is _ _ _ came) = joined_keeps e t refl refl (piece_same _ e.receiver p a r came) refl (open_after e (Open u g) refl is) s
-goes_keeps e tag (IData p) y t s (PieceComes u g a r is _ _ _ came) = joined_keeps e t refl refl (piece_same _ e.receiver p a r came) refl (open_after e (Open u g) refl is) s
+goes_keeps e tag (Data p) y t s (PieceComes u g a r is _ _ _ came _) = joined_keeps e t refl refl (piece_same _ e.receiver p a r came) refl (open_after e (Open u g) refl is) s
+goes_keeps e tag (IData p) y t s (PieceComes u g a r is _ _ _ came _) = joined_keeps e t refl refl (piece_same _ e.receiver p a r came) refl (open_after e (Open u g) refl is) s
 goes_keeps e tag (Init m) y t s h = absurd (cc)
 goes_keeps e tag (InitAck m) y t s (AcceptedAck d xs is _ _ _) = begins_keeps e t refl refl refl refl refl (ap is_before is) s
 goes_keeps e tag (Sack k) y t s (SackStale _ _) = keeps_itself e s
 goes_keeps e tag (Sack k) y t s (SackCounts on _) = joined_keeps e t (heard_plan e.pace e.moment e.sender (sack_taken e.sender k)) (heard_tickets e.pace e.moment e.sender (sack_taken e.sender k)) (same e.receiver) refl (heard_after takes_acknowledgements e.phase on) s
 goes_keeps e tag (Heartbeat i) y t s (HeartbeatCounts _) = same_keeps e t refl refl refl (λ on. on) s
-goes_keeps e tag (HeartbeatAck i) y t s h = let q : t ≡ e = cc in subst (KeepsLogs e) (sym q) (keeps_itself e s)
+goes_keeps e tag (HeartbeatAck i) y t s h = let q : t ≡ beat_heard e i = cc in subst (KeepsLogs e) (sym q) (same_keeps e (beat_heard e i) refl refl refl (λ on. on) s)
 goes_keeps e tag (Abort b xs) y t s h = absurd (cc)
 goes_keeps e tag (Shutdown n) y t s (ShutdownStale _ _ _ _ _) = same_keeps e t refl refl refl (λ on. absurd (cc)) s
 goes_keeps e tag (Shutdown n) y t s (ShutdownCounts _ _ _ _ _) = joined_keeps e t (heard_plan e.pace e.moment e.sender (shutdown_taken e.sender n)) (heard_tickets e.pace e.moment e.sender (shutdown_taken e.sender n)) (same e.receiver) refl refl s
@@ -135,8 +136,10 @@ ends_keeps e tag (Unknown n f v) t s (IsUnknown _ _ h) = let u = unknown_ends e 
 pub replies_keeps : (e : EndView) (tag : ℕ) (x : ChunkMeaning) (t : EndView) (p : Packet) → IsSound e → Acts e tag x (Replies t p) → KeepsLogs e t
 replies_keeps e tag (Data q) t p s (PieceEmpty _ _ _ _ _) = same_keeps e t refl refl refl (λ on. absurd (cc)) s
 replies_keeps e tag (Data q) t p s (WrongFormat _ _ _ _ _ _) = same_keeps e t refl refl refl (λ on. absurd (cc)) s
+replies_keeps e tag (Data q) t p s (Misnumbered _ _ _ _ _ _ _ _ _) = same_keeps e t refl refl refl (λ on. absurd (cc)) s
 replies_keeps e tag (IData q) t p s (PieceEmpty _ _ _ _ _) = same_keeps e t refl refl refl (λ on. absurd (cc)) s
 replies_keeps e tag (IData q) t p s (WrongFormat _ _ _ _ _ _) = same_keeps e t refl refl refl (λ on. absurd (cc)) s
+replies_keeps e tag (IData q) t p s (Misnumbered _ _ _ _ _ _ _ _ _) = same_keeps e t refl refl refl (λ on. absurd (cc)) s
 replies_keeps e tag (Init m) t p s h = absurd (cc)
 replies_keeps e tag (InitAck m) t p s (RefusedAck _ _ _ _ _) = same_keeps e t refl refl refl (λ on. absurd (cc)) s
 replies_keeps e tag (Sack k) t p s (SackWrong _ _ _ _ _) = same_keeps e t refl refl refl (λ on. absurd (cc)) s

@@ -2,8 +2,9 @@
 use Rattle.std.proofs.Common.{Bool, true, false, List, [], ◌∷◌, refl}
 use Rattle.std.specs.Prelude.{if◌then◌else◌, nat_lt}
 use Rattle.sctp_model.specs.end.EndView.{TimedOut, Alarm, InitAlarm, CookieAlarm, DataAlarm, ShutdownAlarm, AckAlarm, EndView, has_association, ResetAlarm}
-use Rattle.sctp_model.specs.end.Clock.{at_moment, closed, with_timer, is_over_at, repeats_of}
-use Rattle.sctp_model.specs.end.Clock.{expired_timer}
+use Rattle.sctp_model.specs.end.EndView.{BeatAlarm, GuardAlarm}
+use Rattle.sctp_model.specs.end.Clock.{at_moment, closed, with_timer, is_over_at}
+use Rattle.sctp_model.specs.end.Clock.{expired_timer, may_go_on}
 use Rattle.sctp_model.specs.end.Moments.{after_abandoning, is_data_due, given_up, due_again, rung, ring, rung_all, all_alarms, waited_in, waited, passed}
 use Rattle.sctp_outcomes.specs.Kept.{IsSound, KeepsLogs, MomentsKeepLogs}
 use Rattle.sctp_outcomes.proofs.logs.Senders.{given_up_keeps, retried_keeps, timed_out_keeps}
@@ -17,14 +18,16 @@ again_keeps DataAlarm e s = sender_keeps e _ (timed_out_keeps e.sender) refl ref
 again_keeps ShutdownAlarm e s = same_keeps e _ refl refl refl (λ on. on) s
 again_keeps AckAlarm e s = same_keeps e _ refl refl refl (λ on. on) s
 again_keeps ResetAlarm e s = sender_keeps e _ (retried_keeps e.sender) refl refl refl s
+again_keeps BeatAlarm e s = same_keeps e _ refl refl refl (λ on. on) s
+again_keeps GuardAlarm e s = same_keeps e _ refl refl refl (λ on. on) s
 
 rung_keeps : (b : Bool) (a : Alarm) (e : EndView) → IsSound e → KeepsLogs e (rung b a e)
 rung_keeps false a e s = keeps_itself e s
-rung_keeps true a e s = go (nat_lt (e.timers a).repeats (repeats_of a))
+rung_keeps true a e s = go (may_go_on a e)
   where
-    go : (c : Bool) → KeepsLogs e (if c then due_again a (with_timer a (expired_timer (e.timers a)) e) else closed TimedOut e)
+    go : (c : Bool) → KeepsLogs e (if c then due_again a (with_timer a (expired_timer e.configuration.longest_wait (e.timers a)) e) else closed TimedOut e)
     go true =
-        let mid = with_timer a (expired_timer (e.timers a)) e in
+        let mid = with_timer a (expired_timer e.configuration.longest_wait (e.timers a)) e in
         let first = same_keeps e mid refl refl refl (λ on. on) s in
         keeps_on e mid (due_again a mid) first (again_keeps a mid first.sound)
     go false = same_keeps e (closed TimedOut e) refl refl refl (λ on. absurd (cc)) s

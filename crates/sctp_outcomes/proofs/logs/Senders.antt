@@ -7,7 +7,7 @@ use Rattle.std.proofs.lemmas.List.Elements.{filter_map-append}
 use Rattle.sctp_model.specs.numbers.Lists.{Has, item_at}
 use Rattle.sctp_model.specs.messages.Format.{Lane}
 use Rattle.sctp_model.specs.messages.Plan.{Message, Entry, End, Plan}
-use Rattle.sctp_model.specs.sender.SenderView.{SenderView, fresh_sender}
+use Rattle.sctp_model.specs.sender.SenderView.{SenderView, fresh_sender, SendLimits}
 use Rattle.sctp_model.specs.sender.Words.{when, count_up}
 use Rattle.sctp_model.specs.sender.Entries.{entry_lane, entry_number, entry_message}
 use Rattle.sctp_model.specs.sender.Assigning.{with_entry}
@@ -21,8 +21,8 @@ use Rattle.sctp_model.proofs.sender.AbandonCases.{after_abandon, after_end}
 use Rattle.sctp_outcomes.specs.Kept.{IsNamed}
 
 -- a sender that is as it is made
-abbrev pub IsNew : ℕ → SenderView → Type 0
-IsNew k v = v ≡ fresh_sender 0 0 k 0 false
+abbrev pub IsNew : ℕ → SendLimits → SenderView → Type 0
+IsNew k m v = v ≡ fresh_sender 0 0 k 0 false m
 
 -- What is noted of the one is noted of the other.
 pub record KeepsNumbers (v u : SenderView) : Type 0 where
@@ -30,13 +30,13 @@ pub record KeepsNumbers (v u : SenderView) : Type 0 where
   pub named : IsNamed v.plan → IsNamed u.plan
   pub grown : length v.plan.entries ≤ length u.plan.entries
   pub tickets : u.tickets ≡ v.tickets
-  pub new : (k : ℕ) → IsNew k v → IsNew k u
+  pub new : (k : ℕ) (m : SendLimits) → IsNew k m v → IsNew k m u
 
 pub keeps_itself : (v : SenderView) → KeepsNumbers v v
-keeps_itself v = record { numbers = refl; named = λ n. n; grown = omega arith; tickets = refl; new = λ k n. n }
+keeps_itself v = record { numbers = refl; named = λ n. n; grown = omega arith; tickets = refl; new = λ k m n. n }
 
 pub keeps_on : (v u w : SenderView) → KeepsNumbers v u → KeepsNumbers u w → KeepsNumbers v w
-keeps_on v u w a b = record { numbers = b.numbers ∙ a.numbers; named = λ n. b.named (a.named n); grown = (let x = a.grown in let y = b.grown in omega (arith, x, y)); tickets = b.tickets ∙ a.tickets; new = λ k n. b.new k (a.new k n) }
+keeps_on v u w a b = record { numbers = b.numbers ∙ a.numbers; named = λ n. b.named (a.named n); grown = (let x = a.grown in let y = b.grown in omega (arith, x, y)); tickets = b.tickets ∙ a.tickets; new = λ k m n. b.new k m (a.new k m n) }
 
 -- ---- lists
 
@@ -94,8 +94,8 @@ name_is_named p t n named is = go (find (λ e. has_ticket t (entry_message p e))
 
 -- ---- abandoning
 
-withdrawn_new : (v : SenderView) (t k : ℕ) → IsNew k v → IsNew k (record v { queue = without t v.queue })
-withdrawn_new v t k is = subst (λ (x : SenderView). IsNew k (record x { queue = without t x.queue })) (sym is) refl
+withdrawn_new : (v : SenderView) (t k : ℕ) (m : SendLimits) → IsNew k m v → IsNew k m (record v { queue = without t v.queue })
+withdrawn_new v t k m is = subst (λ (x : SenderView). IsNew k m (record x { queue = without t x.queue })) (sym is) refl
 
 given_keeps : (v : SenderView) (t : ℕ) (n : Name) → name_of v t ≡ Some n → KeepsNumbers v (with_abandoned v n)
 given_keeps v t n is = record {
@@ -103,7 +103,7 @@ given_keeps v t n is = record {
   named = λ named. after_end IsNamed v n (λ off. named) (λ on. named_more v.plan (End n.lane n.number) (name_is_named v.plan t n named is) named);
   grown = after_end (λ (p : Plan). length v.plan.entries ≤ length p.entries) v n (λ off. omega arith) (λ on. (let q = length-append v.plan.entries (End n.lane n.number ∷ []) in omega (arith, q)));
   tickets = refl;
-  new = λ k new. absurd (let none : None ≡ Some n = subst (λ (x : SenderView). name_of x t ≡ Some n) new is in cc);
+  new = λ k m new. absurd (let none : None ≡ Some n = subst (λ (x : SenderView). name_of x t ≡ Some n) new is in cc);
 }
 
 pub abandoned_keeps : (v : SenderView) (t : ℕ) → KeepsNumbers v (abandon_after v t)
@@ -137,15 +137,15 @@ given_up_keeps false v now = expired_keeps v now
 
 -- ---- the data timer
 
-nothing_marked : (k i : ℕ) → (false || unsettled_at (fresh_sender 0 0 k 0 false) i (item_at [] i)) ≡ false
-nothing_marked k zero = refl
-nothing_marked k (suc i) = refl
+nothing_marked : (k : ℕ) (m : SendLimits) (i : ℕ) → (false || unsettled_at (fresh_sender 0 0 k 0 false m) i (item_at [] i)) ≡ false
+nothing_marked k m zero = refl
+nothing_marked k m (suc i) = refl
 
-new_timed_out : (k : ℕ) → IsNew k (timed_out (fresh_sender 0 0 k 0 false))
-new_timed_out k = λ j. record (fresh_sender 0 0 k 0 false) { marked = fun_ext (nothing_marked k) j }
+new_timed_out : (k : ℕ) (m : SendLimits) → IsNew k m (timed_out (fresh_sender 0 0 k 0 false m))
+new_timed_out k m = λ j. record (fresh_sender 0 0 k 0 false m) { marked = fun_ext (nothing_marked k m) j }
 
 pub timed_out_keeps : (v : SenderView) → KeepsNumbers v (timed_out v)
-timed_out_keeps v = record { numbers = refl; named = λ n. n; grown = omega arith; tickets = refl; new = λ k new. subst (λ (x : SenderView). IsNew k (timed_out x)) (sym new) (new_timed_out k) }
+timed_out_keeps v = record { numbers = refl; named = λ n. n; grown = omega arith; tickets = refl; new = λ k m new. subst (λ (x : SenderView). IsNew k m (timed_out x)) (sym new) (new_timed_out k m) }
 
 -- ---- the timer of a request
 
@@ -155,5 +155,5 @@ retried_keeps v = let same = (retried_of v).1 in record {
   named = λ n. subst (λ (x : SenderView). IsNamed x.plan) (sym same) n;
   grown = (let q = ap (λ (x : SenderView). length x.plan.entries) same in omega (arith, q));
   tickets = ap (λ (x : SenderView). x.tickets) same;
-  new = λ k new. subst (λ (x : SenderView). IsNew k (retried x)) (sym new) refl;
+  new = λ k m new. subst (λ (x : SenderView). IsNew k m (retried x)) (sym new) refl;
 }

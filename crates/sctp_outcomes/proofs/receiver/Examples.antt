@@ -11,7 +11,7 @@ use Rattle.sctp_outcomes.specs.receiver.Steps.{cumulative, piece_step, forward_s
 use Rattle.sctp_outcomes.specs.receiver.Runs.{all_runs}
 
 -- a chunk of one byte on stream 0, by its flags U, B and E
-abbrev chunk : (unordered begin end : Bool) → (tsn number word byte : ℕ) → PieceMeaning
+abbrev pub chunk : (unordered begin end : Bool) → (tsn number word byte : ℕ) → PieceMeaning
 chunk u b e tsn number word byte = record {
   immediate = false;
   unordered = u;
@@ -25,7 +25,7 @@ chunk u b e tsn number word byte = record {
 }
 
 -- a chunk taken at the cumulative index that the receiver then has; no index above 9 is recorded here
-abbrev takes : Format → ReceiverView → PieceMeaning → ReceiverView
+abbrev pub takes : Format → ReceiverView → PieceMeaning → ReceiverView
 takes f r p = piece_step f r (cumulative r 9) p
 
 abbrev forwards : Format → ReceiverView → ForwardMeaning → ReceiverView
@@ -43,7 +43,7 @@ indexes xs = map (λ x. x.index) xs
 -- ---- two messages swapped, over the wrap of the TSN and of the SSN
 
 abbrev waits_for_65535 : ReceiverView
-waits_for_65535 = record (fresh_receiver 4294967295 1 100) { next = λ s. 65535 }
+waits_for_65535 = record (fresh_receiver 4294967295 1 100 0) { next = λ s. 65535 }
 
 abbrev second_came : ReceiverView
 second_came = takes Plain waits_for_65535 (chunk false true true 0 0 7 2)
@@ -66,7 +66,7 @@ again = (refl, refl)
 
 -- under DATA each has two consecutive indexes: the first fragments come first
 abbrev three_of_data : ReceiverView
-three_of_data = takes Plain (takes Plain (takes Plain (fresh_receiver 1 1 100) (chunk true true false 1 0 7 1)) (chunk true true false 3 0 8 3)) (chunk true false true 2 0 7 2)
+three_of_data = takes Plain (takes Plain (takes Plain (fresh_receiver 1 1 100 0) (chunk true true false 1 0 7 1)) (chunk true true false 3 0 8 3)) (chunk true false true 2 0 7 2)
 
 one_of_data : (texts (three_of_data.waiting 0) ≡ (1 ∷ 2 ∷ []) ∷ []) × (numbers_of (three_of_data.waiting 0) ≡ None ∷ []) × (indexes three_of_data.kept ≡ 3 ∷ [])
 one_of_data = (refl, refl, refl)
@@ -76,7 +76,7 @@ two_of_data = refl
 
 -- under I-DATA their indexes may be mixed
 abbrev three_of_i_data : ReceiverView
-three_of_i_data = takes Interleaved (takes Interleaved (takes Interleaved (fresh_receiver 1 1 100) (chunk true true false 1 0 7 1)) (chunk true true false 2 1 8 3)) (chunk true false true 3 0 1 2)
+three_of_i_data = takes Interleaved (takes Interleaved (takes Interleaved (fresh_receiver 1 1 100 0) (chunk true true false 1 0 7 1)) (chunk true true false 2 1 8 3)) (chunk true false true 3 0 1 2)
 
 one_of_i_data : (texts (three_of_i_data.waiting 0) ≡ (1 ∷ 2 ∷ []) ∷ []) × (numbers_of (three_of_i_data.waiting 0) ≡ Some 0 ∷ []) × (indexes three_of_i_data.kept ≡ 2 ∷ [])
 one_of_i_data = (refl, refl, refl)
@@ -87,7 +87,7 @@ two_of_i_data = refl
 -- ---- a dishonest pair with one number: of two whole messages the lower index counts, and the other goes
 
 abbrev pair_came : ReceiverView
-pair_came = takes Plain (takes Plain (fresh_receiver 1 1 100) (chunk false true true 3 1 7 3)) (chunk false true true 2 1 7 2)
+pair_came = takes Plain (takes Plain (fresh_receiver 1 1 100 0) (chunk false true true 3 1 7 3)) (chunk false true true 2 1 7 2)
 
 pair_is_kept : indexes pair_came.kept ≡ 2 ∷ 3 ∷ []
 pair_is_kept = refl
@@ -102,7 +102,7 @@ lower_counts = (refl, refl)
 
 -- two bytes wait and one is kept, of four
 abbrev three_held : ReceiverView
-three_held = takes Plain (takes Plain (fresh_receiver 1 1 4) (record (chunk false true true 1 0 7 1) { bytes = 1 ∷ 2 ∷ [] })) (chunk false true true 3 2 7 3)
+three_held = takes Plain (takes Plain (fresh_receiver 1 1 4 0) (record (chunk false true true 1 0 7 1) { bytes = 1 ∷ 2 ∷ [] })) (chunk false true true 3 2 7 3)
 
 -- one byte more fills it; two don't fit, and leave all as it was
 abbrev two_more : PieceMeaning
@@ -130,7 +130,7 @@ names unordered number = record { stream = 0; unordered = unordered; number = nu
 
 -- an ordered message in part, under both formats: it goes, and its number is passed
 abbrev ordered_in_part : Format → ReceiverView
-ordered_in_part f = takes f (fresh_receiver 1 1 100) (chunk false true false 1 0 7 1)
+ordered_in_part f = takes f (fresh_receiver 1 1 100 0) (chunk false true false 1 0 7 1)
 
 abbrev ordered_skipped : Format → ReceiverView
 ordered_skipped f = forwards f (ordered_in_part f) (record { cumulative = 2; skips = names false 0 ∷ [] })
@@ -143,7 +143,7 @@ goes_under_i_data = (refl, refl, refl)
 
 -- unordered fragments: a FORWARD-TSN lets go by index, an I-FORWARD-TSN by the numbers that it names and not by its index
 abbrev loose : Format → ReceiverView
-loose f = takes f (takes f (fresh_receiver 1 1 100) (chunk true true false 1 0 7 1)) (chunk true true false 3 1 8 3)
+loose f = takes f (takes f (fresh_receiver 1 1 100 0) (chunk true true false 1 0 7 1)) (chunk true true false 3 1 8 3)
 
 by_index : indexes (forwards Plain (loose Plain) (record { cumulative = 2; skips = [] })).kept ≡ 3 ∷ []
 by_index = refl
@@ -154,7 +154,7 @@ by_number = (refl, refl)
 
 -- of three messages the second alone arrived: a FORWARD to 3 names 2, and it is delivered all the same
 abbrev second_alone : ReceiverView
-second_alone = takes Plain (fresh_receiver 1 1 100) (chunk false true true 2 1 7 2)
+second_alone = takes Plain (fresh_receiver 1 1 100 0) (chunk false true true 2 1 7 2)
 
 abbrev all_abandoned : ReceiverView
 all_abandoned = forwards Plain second_alone (record { cumulative = 3; skips = names false 2 ∷ [] })
@@ -170,7 +170,7 @@ late_is_behind = (refl, refl)
 -- ---- the blocks of a SACK
 
 abbrev seen_some : ReceiverView
-seen_some = record (fresh_receiver 1 1 100) { seen = λ i. (i == 2) || ((i == 3) || (i == 5)) }
+seen_some = record (fresh_receiver 1 1 100 0) { seen = λ i. (i == 2) || ((i == 3) || (i == 5)) }
 
 blocks_of : all_runs seen_some 0 9 ≡ record { start = 2; end = 3 } ∷ record { start = 5; end = 5 } ∷ []
 blocks_of = refl

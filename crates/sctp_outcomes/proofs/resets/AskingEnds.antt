@@ -10,17 +10,20 @@ use Rattle.sctp_model.specs.sender.Queueing.{Refusal, refusal}
 use Rattle.sctp_model.specs.sender.Readers.{point}
 use Rattle.sctp_model.specs.sender.Abandoning.{abandon_after, expired, worn}
 use Rattle.sctp_model.specs.end.EndView.{Draw, Aborted, Established, ShutdownPending, ShutdownSent, ShutdownReceived, ShutdownAckSent, Phase, Idle, Listening, Calling, Echoing, Open, Over, Alarm, InitAlarm, CookieAlarm, DataAlarm, ShutdownAlarm, AckAlarm, EndView, has_association, ResetAlarm, Timer, format_of, unused_timer}
-use Rattle.sctp_model.specs.end.Clock.{repeats_of, is_over_at, is_home, running, restarted_expiry, sender_heard, with_timer, closed, at_moment, settled, turned}
+use Rattle.sctp_model.specs.end.EndView.{BeatAlarm, GuardAlarm}
+use Rattle.sctp_model.specs.end.Clock.{is_over_at, is_home, running, restarted_expiry, sender_heard, with_timer, closed, at_moment, settled, turned, may_go_on}
 use Rattle.sctp_model.specs.end.Pacing.{Pace}
 use Rattle.sctp_model.specs.end.Closing.{rested, hears, with_due}
 use Rattle.sctp_model.specs.end.PeerFaults.{GoesOn, Ends, Replies, Note, Unnoted}
 use Rattle.sctp_model.specs.end.Opening.{AcceptedAck, RefusedAck, EchoedAgain, CookieAcked, begun}
-use Rattle.sctp_model.specs.end.Acting.{Acts, ForwardComes, PieceComes, IsOld, SackStale, ShutdownStale, HeartbeatCounts, SackCounts, ShutdownCounts, Closes, SaysNothing, Crosses, Again, AckCompletes, CompleteCompleted, PieceEmpty, WrongFormat, SackWrong, ShutdownWrong, WrongKind, IsBad, ReconfigComes, IsUnknown}
+use Rattle.sctp_model.specs.end.Beating.{beat_heard}
+use Rattle.sctp_model.specs.end.Acting.{Acts, ForwardComes, PieceComes, IsOld, SackStale, ShutdownStale, HeartbeatCounts, SackCounts, ShutdownCounts, Closes, SaysNothing, Crosses, Again, AckCompletes, CompleteCompleted, PieceEmpty, WrongFormat, SackWrong, ShutdownWrong, WrongKind, IsBad, ReconfigComes, IsUnknown, Misnumbered}
 use Rattle.sctp_model.specs.end.Wearing.{missed_below, wearing}
 use Rattle.sctp_model.proofs.PacedEnds.{worn_cases}
 use Rattle.sctp_model.specs.end.Arriving.{AllAct, NoneLeft, Next, Passes, Last, EndsAnswered, Stopped, Arrives, Elsewhere, NotOurs, Stray, CookieBegins, Heard, Notes, no_notes, noted, urged, packet_ended}
 use Rattle.sctp_model.specs.end.Strays.{Verdict}
 use Rattle.sctp_model.specs.end.Building.{Slot, Puts, NoMore, NotDue, Put, IsFull, Builds, Sleeps, Waits, Calls, Echoes, EndsFull, Fills, room_behind, EchoSlot, CookieAckSlot, HeartbeatSlot, ErrorSlot, SackSlot, ForwardSlot, ShutdownSlot, ShutdownAckSlot, once_built, AnswerSlot, RequestSlot}
+use Rattle.sctp_model.specs.end.Building.{BeatSlot}
 use Rattle.sctp_model.specs.end.Moments.{after_abandoning, is_data_due, given_up, rung, ring, rung_all, all_alarms, waited_in, passed, ticked}
 use Rattle.sctp_model.specs.end.UserCalls.{is_established, answer_for, send_answer, send_leaves, NotOpen, is_open, abandoned_at, shut_in, shut, AbortAnswer, Aborts, NoPeer, TooLong, abort_leaves, ResetCall, Begun, NotAgreed, NoStream, reset_leaves, told_leaves}
 use Rattle.sctp_safety.proofs.machine.EndWords.{rested_cases, ended_cases}
@@ -124,7 +127,7 @@ progress_goes true e r = subst (λ (b : Bool). Goes e.phase (is_some e.sender.re
 resting_goes : (e : EndView) → IsAskingAt e → IsAskingAt (asking_on e)
 resting_goes e r = go (is_some e.sender.resets.pending) refl
   where
-    go : (b : Bool) → is_some e.sender.resets.pending ≡ b → IsAskingAt (if b then e else with_timer ResetAlarm unused_timer (with_due (record e.due { request = false }) e))
+    go : (b : Bool) → is_some e.sender.resets.pending ≡ b → IsAskingAt (if b then e else with_timer ResetAlarm (unused_timer e.configuration.first_wait) (with_due (record e.due { request = false }) e))
     go true is = r
     go false is = fewer e.phase (is_some e.sender.resets.pending) e.due.request (runs (e.timers ResetAlarm)) (is_some e.sender.resets.pending) false false (λ on. absurd (let no : false ≡ true = sym is ∙ on in cc)) r
 
@@ -211,15 +214,15 @@ runs_now now t None is = refl
 
 -- a chunk after which the packet goes on
 asking_goes : (e : EndView) (tag : ℕ) (x : ChunkMeaning) (y : Note) (t : EndView) → IsAskingAt e → Acts e tag x (GoesOn y t) → IsAskingAt t
-asking_goes e tag (Data p) y t r (PieceComes _ _ _ _ _ _ _ _ _) = r
-asking_goes e tag (IData p) y t r (PieceComes _ _ _ _ _ _ _ _ _) = r
+asking_goes e tag (Data p) y t r (PieceComes _ _ _ _ _ _ _ _ _ _) = r
+asking_goes e tag (IData p) y t r (PieceComes _ _ _ _ _ _ _ _ _ _) = r
 asking_goes e tag (Init m) y t r h = absurd (cc)
 asking_goes e tag (InitAck m) y t r (AcceptedAck _ _ _ _ _ _) = refl
 asking_goes e tag (Sack s) y t r (SackStale _ _) = r
 asking_goes e tag (Sack s) y t r (SackCounts hears none) =
     subst (λ (x : Outgoing). Goes e.phase (is_some x.pending) e.due.request (runs (e.timers ResetAlarm))) (sym (heard_resets e.pace e.moment e.sender (sack_taken e.sender s))) r
 asking_goes e tag (Heartbeat i) y t r (HeartbeatCounts _) = r
-asking_goes e tag (HeartbeatAck i) y t r h = let q : t ≡ e = cc in subst IsAskingAt (sym q) r
+asking_goes e tag (HeartbeatAck i) y t r h = let q : t ≡ beat_heard e i = cc in subst IsAskingAt (sym q) r
 asking_goes e tag (Abort b xs) y t r h = absurd (cc)
 asking_goes e tag (Shutdown n) y t r (ShutdownStale _ _ _ _ _) = tt
 asking_goes e tag (Shutdown n) y t r (ShutdownCounts _ _ _ _ none) = tt
@@ -263,8 +266,10 @@ asking_ends e tag (Unknown n f v) t r (IsUnknown _ _ h) = let u = unknown_ends e
 asking_replies : (e : EndView) (tag : ℕ) (x : ChunkMeaning) (t : EndView) (p : Packet) → IsAskingAt e → Acts e tag x (Replies t p) → IsAskingAt t
 asking_replies e tag (Data q) t p r (PieceEmpty _ _ _ _ _) = tt
 asking_replies e tag (Data q) t p r (WrongFormat _ _ _ _ _ _) = tt
+asking_replies e tag (Data q) t p r (Misnumbered _ _ _ _ _ _ _ _ _) = tt
 asking_replies e tag (IData q) t p r (PieceEmpty _ _ _ _ _) = tt
 asking_replies e tag (IData q) t p r (WrongFormat _ _ _ _ _ _) = tt
+asking_replies e tag (IData q) t p r (Misnumbered _ _ _ _ _ _ _ _ _) = tt
 asking_replies e tag (Init m) t p r h = absurd (cc)
 asking_replies e tag (InitAck m) t p r (RefusedAck _ _ _ _ _) = tt
 asking_replies e tag (Sack s) t p r (SackWrong _ _ _ _ _) = tt
@@ -318,6 +323,7 @@ asking_built : (s : Slot) (e : EndView) → IsAskingAt e → IsAskingAt (once_bu
 asking_built EchoSlot e r = r
 asking_built CookieAckSlot e r = r
 asking_built HeartbeatSlot e r = r
+asking_built BeatSlot e r = r
 asking_built ErrorSlot e r = r
 asking_built SackSlot e r = r
 asking_built ForwardSlot e r = r
@@ -359,13 +365,15 @@ retried_waits v = go v.resets.pending refl
 
 asking_rung : (b : Bool) (a : Alarm) (e : EndView) → IsAskingAt e → IsAskingAt (rung b a e)
 asking_rung false a e r = r
-asking_rung true InitAlarm e r = either (nat_lt (e.timers InitAlarm).repeats (repeats_of InitAlarm)) _ _ r tt
-asking_rung true CookieAlarm e r = either (nat_lt (e.timers CookieAlarm).repeats (repeats_of CookieAlarm)) _ _ r tt
-asking_rung true DataAlarm e r = either (nat_lt (e.timers DataAlarm).repeats (repeats_of DataAlarm)) _ _ r tt
-asking_rung true ShutdownAlarm e r = either (nat_lt (e.timers ShutdownAlarm).repeats (repeats_of ShutdownAlarm)) _ _ r tt
-asking_rung true AckAlarm e r = either (nat_lt (e.timers AckAlarm).repeats (repeats_of AckAlarm)) _ _ r tt
+asking_rung true InitAlarm e r = either (may_go_on InitAlarm e) _ _ r tt
+asking_rung true CookieAlarm e r = either (may_go_on CookieAlarm e) _ _ r tt
+asking_rung true DataAlarm e r = either (may_go_on DataAlarm e) _ _ r tt
+asking_rung true ShutdownAlarm e r = either (may_go_on ShutdownAlarm e) _ _ r tt
+asking_rung true AckAlarm e r = either (may_go_on AckAlarm e) _ _ r tt
+asking_rung true BeatAlarm e r = either (may_go_on BeatAlarm e) _ _ r tt
+asking_rung true GuardAlarm e r = tt
 asking_rung true ResetAlarm e r =
-    either (nat_lt (e.timers ResetAlarm).repeats (repeats_of ResetAlarm)) _ _ (subst (λ (w : Bool). Goes e.phase w true false) (sym (retried_waits e.sender))
+    either (may_go_on ResetAlarm e) _ _ (subst (λ (w : Bool). Goes e.phase w true false) (sym (retried_waits e.sender))
     (due_or_runs e.phase (is_some e.sender.resets.pending) e.due.request (runs (e.timers ResetAlarm)) true false refl r)) tt
 
 asking_rung_all : (alarms : List Alarm) (e : EndView) → IsAskingAt e → IsAskingAt (rung_all alarms e)

@@ -244,5 +244,5 @@ denied_counts {P} r number xs = record {
     by_told s n (inr (turn, (done, (named, count)))) = absurd (cc)
 
 -- a new receiver, if nothing was delivered before
-pub fresh_counts : {P : ReceiverView → ℕ → ResetMeaning → Type 0} (r : ReceiverView) (i n b : ℕ) → ((s : ℕ) → handed r s ≡ []) → Counts P r (fresh_receiver i n b)
-fresh_counts r i n b none = record { grown = λ s. (let q = ap length (none s) in omega (arith, q)); told = λ s k is. absurd (cc) }
+pub fresh_counts : {P : ReceiverView → ℕ → ResetMeaning → Type 0} (r : ReceiverView) (i n b v : ℕ) → ((s : ℕ) → handed r s ≡ []) → Counts P r (fresh_receiver i n b v)
+fresh_counts r i n b v none = record { grown = λ s. (let q = ap length (none s) in omega (arith, q)); told = λ s k is. absurd (cc) }

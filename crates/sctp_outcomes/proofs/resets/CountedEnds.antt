@@ -13,7 +13,8 @@ use Rattle.sctp_model.specs.end.Clock.{closed, with_timer}
 use Rattle.sctp_model.specs.end.Closing.{rested, with_due}
 use Rattle.sctp_model.specs.end.PeerFaults.{GoesOn, Ends, Replies, Note}
 use Rattle.sctp_model.specs.end.Opening.{AcceptedAck, RefusedAck, EchoedAgain, CookieAcked, begun}
-use Rattle.sctp_model.specs.end.Acting.{Acts, ForwardComes, PieceComes, IsOld, SackStale, ShutdownStale, HeartbeatCounts, SackCounts, ShutdownCounts, Closes, SaysNothing, Crosses, Again, AckCompletes, CompleteCompleted, PieceEmpty, WrongFormat, SackWrong, ShutdownWrong, WrongKind, IsBad, ReconfigComes, IsUnknown}
+use Rattle.sctp_model.specs.end.Beating.{beat_heard}
+use Rattle.sctp_model.specs.end.Acting.{Acts, ForwardComes, PieceComes, IsOld, SackStale, ShutdownStale, HeartbeatCounts, SackCounts, ShutdownCounts, Closes, SaysNothing, Crosses, Again, AckCompletes, CompleteCompleted, PieceEmpty, WrongFormat, SackWrong, ShutdownWrong, WrongKind, IsBad, ReconfigComes, IsUnknown, Misnumbered}
 use Rattle.sctp_model.specs.end.Reconfiguring.{request_heard, other_heard, response_heard, asking_on, in_progress, parameter_heard, parameters_heard}
 use Rattle.sctp_model.specs.end.Wearing.{missed_below, wearing}
 use Rattle.sctp_model.specs.end.Strays.{Verdict}
@@ -42,7 +43,7 @@ nothing_handed e sound before s = ap (λ (r : ReceiverView). handed r s) (sound.
 asking_on_receiver : (e : EndView) → (asking_on e).receiver ≡ e.receiver
 asking_on_receiver e = go (is_some e.sender.resets.pending)
   where
-    go : (b : Bool) → (if b then e else with_timer ResetAlarm unused_timer (with_due (record e.due { request = false }) e)).receiver ≡ e.receiver
+    go : (b : Bool) → (if b then e else with_timer ResetAlarm (unused_timer e.configuration.first_wait) (with_due (record e.due { request = false }) e)).receiver ≡ e.receiver
     go true = refl
     go false = refl
 
@@ -80,14 +81,14 @@ parameters_count c e (x ∷ xs) =
 -- ---- a chunk
 
 goes_count : (e : EndView) (tag : ℕ) (x : ChunkMeaning) (xs : List ChunkMeaning) (y : Note) (t : EndView) → IsSound e → Acts e tag x (GoesOn y t) → Counted (IsAmongChunks tag e (x ∷ xs)) e t
-goes_count e tag (Data p) cs y t s (PieceComes u g a r _ _ _ _ came) = piece_counts _ e.receiver p a r came
-goes_count e tag (IData p) cs y t s (PieceComes u g a r _ _ _ _ came) = piece_counts _ e.receiver p a r came
+goes_count e tag (Data p) cs y t s (PieceComes u g a r _ _ _ _ came _) = piece_counts _ e.receiver p a r came
+goes_count e tag (IData p) cs y t s (PieceComes u g a r _ _ _ _ came _) = piece_counts _ e.receiver p a r came
 goes_count e tag (Init m) cs y t s h = absurd (cc)
-goes_count e tag (InitAck m) cs y t s (AcceptedAck d xs is _ _ _) = fresh_counts e.receiver _ _ _ (nothing_handed e s (ap is_before is))
+goes_count e tag (InitAck m) cs y t s (AcceptedAck d xs is _ _ _) = fresh_counts e.receiver _ _ _ _ (nothing_handed e s (ap is_before is))
 goes_count e tag (Sack k) cs y t s (SackStale _ _) = still e t refl
 goes_count e tag (Sack k) cs y t s (SackCounts on _) = still e t refl
 goes_count e tag (Heartbeat i) cs y t s (HeartbeatCounts _) = still e t refl
-goes_count e tag (HeartbeatAck i) cs y t s h = let q : t ≡ e = cc in still e t (ap (λ (z : EndView). z.receiver) q)
+goes_count e tag (HeartbeatAck i) cs y t s h = let q : t ≡ beat_heard e i = cc in still e t (ap (λ (z : EndView). z.receiver) q)
 goes_count e tag (Abort b xs) cs y t s h = absurd (cc)
 goes_count e tag (Shutdown n) cs y t s (ShutdownStale _ _ _ _ _) = still e t refl
 goes_count e tag (Shutdown n) cs y t s (ShutdownCounts _ _ _ _ _) = still e t refl
@@ -131,8 +132,10 @@ ends_count e tag (Unknown n f v) t (IsUnknown _ _ h) = let u = unknown_ends e t 
 replies_count : {P : ReceiverView → ℕ → ResetMeaning → Type 0} (e : EndView) (tag : ℕ) (x : ChunkMeaning) (t : EndView) (p : Packet) → Acts e tag x (Replies t p) → Counted P e t
 replies_count e tag (Data q) t p (PieceEmpty _ _ _ _ _) = still e t refl
 replies_count e tag (Data q) t p (WrongFormat _ _ _ _ _ _) = still e t refl
+replies_count e tag (Data q) t p (Misnumbered _ _ _ _ _ _ _ _ _) = still e t refl
 replies_count e tag (IData q) t p (PieceEmpty _ _ _ _ _) = still e t refl
 replies_count e tag (IData q) t p (WrongFormat _ _ _ _ _ _) = still e t refl
+replies_count e tag (IData q) t p (Misnumbered _ _ _ _ _ _ _ _ _) = still e t refl
 replies_count e tag (Init m) t p h = absurd (cc)
 replies_count e tag (InitAck m) t p (RefusedAck _ _ _ _ _) = still e t refl
 replies_count e tag (Sack k) t p (SackWrong _ _ _ _ _) = still e t refl
@@ -174,7 +177,7 @@ arrives_count e d p t v s (Stray _ _ _ _) = still e t refl
 arrives_count e d p t v s (CookieBegins b u n _ ports tag none opens acts gap _) =
     let before = opens_before e p.tag p.chunks b opens in
     let new = begins_keeps e (begun b e) refl refl refl refl refl before s in
-    let first : Counted (IsInArriving e p) e (begun b e) = fresh_counts e.receiver _ _ _ (nothing_handed e s before) in
+    let first : Counted (IsInArriving e p) e (begun b e) = fresh_counts e.receiver _ _ _ _ (nothing_handed e s before) in
     let acted = counts_among (begun b e).receiver u.receiver (λ r c m k. BehindCookie b ports tag none opens k) (acts_count p.tag (begun b e) _ _ u n v new.sound acts) in
     let all = counts_on e.receiver (begun b e).receiver u.receiver first acted in
     counts_on e.receiver u.receiver (packet_ended (urged gap n) u).receiver all (still u (packet_ended (urged gap n) u) (ended_receiver (urged gap n) u))

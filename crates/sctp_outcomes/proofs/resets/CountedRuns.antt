@@ -15,7 +15,7 @@ use Rattle.sctp_model.specs.end.Strays.{Verdict}
 use Rattle.sctp_model.specs.sender.Resetting.{may_ask}
 use Rattle.sctp_model.specs.end.Clock.{is_home}
 use Rattle.sctp_model.specs.end.Reconfiguring.{asking, asking_now}
-use Rattle.sctp_model.specs.end.Building.{Slot, EchoSlot, CookieAckSlot, HeartbeatSlot, ErrorSlot, SackSlot, ForwardSlot, AnswerSlot, RequestSlot, ShutdownSlot, ShutdownAckSlot, once_built, Puts, NoMore, NotDue, Put, IsFull, Builds, Sleeps, Waits, Calls, Echoes, EndsFull, Fills}
+use Rattle.sctp_model.specs.end.Building.{Slot, EchoSlot, CookieAckSlot, HeartbeatSlot, BeatSlot, ErrorSlot, SackSlot, ForwardSlot, AnswerSlot, RequestSlot, ShutdownSlot, ShutdownAckSlot, once_built, Puts, NoMore, NotDue, Put, IsFull, Builds, Sleeps, Waits, Calls, Echoes, EndsFull, Fills}
 use Rattle.sctp_model.specs.end.UserCalls.{send_answer, shut, abort_answer, abort_leaves, ResetCall, Begun, NotAgreed, NoStream, reset_call, reset_leaves, reset_there, told_leaves}
 use Rattle.sctp_model.specs.world.World.{Side, A, B, World, end_of, end_now, start, Setup, clock_of}
 use Rattle.sctp_model.specs.world.Events.{Event, Outcome}
@@ -80,6 +80,7 @@ built_still : (s : Slot) (e : EndView) → IsStill e.receiver (once_built s e).r
 built_still EchoSlot e = still e.receiver e.receiver refl
 built_still CookieAckSlot e = still e.receiver e.receiver refl
 built_still HeartbeatSlot e = still e.receiver e.receiver refl
+built_still BeatSlot e = still e.receiver e.receiver refl
 built_still ErrorSlot e = still e.receiver e.receiver refl
 built_still SackSlot e = record { grown = λ s. omega arith; told = λ s n is. is }
 built_still ForwardSlot e = still e.receiver e.receiver refl

@@ -10,7 +10,7 @@ use Rattle.sctp_model.specs.sender.Resetting.{next_request, may_ask, asked, requ
 use Rattle.sctp_model.specs.end.EndView.{Tags, Established, Phase, Open, Calling, Echoing, ResetAlarm, EndView, format_of, has_association}
 use Rattle.sctp_model.specs.end.Clock.{is_home}
 use Rattle.sctp_model.specs.end.Reconfiguring.{asking, asking_now}
-use Rattle.sctp_model.specs.end.Building.{Slot, EchoSlot, CookieAckSlot, HeartbeatSlot, ErrorSlot, SackSlot, ForwardSlot, AnswerSlot, RequestSlot, ShutdownSlot, ShutdownAckSlot, open_slots, is_due, Wants, AskReset, once_built, Puts, NoMore, NotDue, Put, IsFull, Builds, Sleeps, Waits, Calls, Echoes, EndsFull, Fills, fragments, room_behind, sent}
+use Rattle.sctp_model.specs.end.Building.{Slot, EchoSlot, CookieAckSlot, HeartbeatSlot, BeatSlot, ErrorSlot, SackSlot, ForwardSlot, AnswerSlot, RequestSlot, ShutdownSlot, ShutdownAckSlot, open_slots, is_due, Wants, AskReset, once_built, Puts, NoMore, NotDue, Put, IsFull, Builds, Sleeps, Waits, Calls, Echoes, EndsFull, Fills, fragments, room_behind, sent}
 use Rattle.sctp_model.proofs.sender.WordLaws.{has_left, has_right}
 use Rattle.sctp_outcomes.proofs.resets.AskingEnds.{filled_resets}
 use Rattle.sctp_outcomes.specs.Resets.{IsPacketFull, IsSaidOrDue, IsInPacket, IsDueStill, AsksFor, ReadyIsAskedFor}
@@ -27,6 +27,7 @@ once_sender : (s : Slot) (e : EndView) → (once_built s e).sender ≡ e.sender
 once_sender EchoSlot e = refl
 once_sender CookieAckSlot e = refl
 once_sender HeartbeatSlot e = refl
+once_sender BeatSlot e = refl
 once_sender ErrorSlot e = refl
 once_sender SackSlot e = refl
 once_sender ForwardSlot e = refl
@@ -56,6 +57,7 @@ once_asks : (s : Slot) (o e : EndView) → IsAskingAs o e → (s ≡ RequestSlot
 once_asks EchoSlot o e k = inr (record { sender = k.sender; answered = k.answered; due = k.due })
 once_asks CookieAckSlot o e k = inr (record { sender = k.sender; answered = k.answered; due = k.due })
 once_asks HeartbeatSlot o e k = inr (record { sender = k.sender; answered = k.answered; due = k.due })
+once_asks BeatSlot o e k = inr (record { sender = k.sender; answered = k.answered; due = k.due })
 once_asks ErrorSlot o e k = inr (record { sender = k.sender; answered = k.answered; due = k.due })
 once_asks SackSlot o e k = inr (record { sender = k.sender; answered = k.answered; due = k.due })
 once_asks ForwardSlot o e k = inr (record { sender = k.sender; answered = k.answered; due = k.due })
@@ -105,7 +107,7 @@ module _ (o : EndView) (q : Request) (pending : o.sender.resets.pending ≡ Some
 
 -- the request is one of the places of an open association
 is_open_slot : Has open_slots RequestSlot
-is_open_slot = inr (inr (inr (inr (inr (inr (inl refl))))))
+is_open_slot = inr (inr (inr (inr (inr (inr (inr (inl refl)))))))
 
 -- the request that an endpoint makes
 abbrev request_of : EndView → Request

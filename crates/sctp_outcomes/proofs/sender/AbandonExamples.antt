@@ -13,7 +13,7 @@ use Rattle.sctp_model.specs.sender.Abandoning.{abandon_answer, abandon_after, ex
 use Rattle.sctp_model.specs.sender.Readers.{point, drained, unsettled, acknowledged, abandoned}
 use Rattle.sctp_model.specs.sender.SentChunks.{forward_said, forward_chunk_of}
 use Rattle.sctp_outcomes.specs.receiver.Steps.{cumulative, piece_step, forward_step}
-use Rattle.sctp_outcomes.proofs.sender.Makers.{asks, piece, chunks, indexes, sack, block, names_one}
+use Rattle.sctp_outcomes.proofs.sender.Makers.{asks, piece, chunks, indexes, sack, block, names_one, plain_limits}
 
 -- ---- the peer: no index above 9 is recorded here
 
@@ -30,10 +30,10 @@ texts hs = map (λ h. h.bytes) hs
 
 -- all three went out, with the TSNs 1, 2 and 3
 abbrev three : SenderView
-three = (fill Plain 200 (asks (asks (asks (fresh_sender 1 1 4 100 true) 0 0 (10 ∷ [])) 0 0 (20 ∷ [])) 0 0 (30 ∷ []))).view
+three = (fill Plain 200 (asks (asks (asks (fresh_sender 1 1 4 100 true plain_limits) 0 0 (10 ∷ [])) 0 0 (20 ∷ [])) 0 0 (30 ∷ []))).view
 
 abbrev second_came : ReceiverView
-second_came = takes Plain (fresh_receiver 1 1 100) (piece false true true 2 0 1 0 (20 ∷ []))
+second_came = takes Plain (fresh_receiver 1 1 100 0) (piece false true true 2 0 1 0 (20 ∷ []))
 
 -- no SACK was returned, and all three are abandoned: one FORWARD to 3 names SSN 2
 abbrev all_three : SenderView
@@ -81,11 +81,11 @@ told_apart = (refl, refl, refl, refl)
 -- ---- one message that arrives late, when it was abandoned and before its FORWARD
 
 abbrev late : SenderView
-late = abandon_after (fill Plain 200 (asks (fresh_sender 1 1 4 100 true) 0 0 (10 ∷ []))).view 1
+late = abandon_after (fill Plain 200 (asks (fresh_sender 1 1 4 100 true plain_limits) 0 0 (10 ∷ []))).view 1
 
 -- it is delivered, and the FORWARD that names it is out of date
 abbrev late_came : ReceiverView
-late_came = takes Plain (fresh_receiver 1 1 100) (piece false true true 1 0 0 0 (10 ∷ []))
+late_came = takes Plain (fresh_receiver 1 1 100 0) (piece false true true 1 0 0 0 (10 ∷ []))
 
 late_arrives : (forward_chunk_of Plain 1500 late ≡ ForwardTsn (names_one 1 0 0)) × (texts (late_came.waiting 0) ≡ (10 ∷ []) ∷ []) × (forward_answer late_came (cumulative late_came 9) (forward_said Plain late (point late)) ≡ OutOfDate)
     × (forwards Plain late_came (forward_said Plain late (point late)) ≡ late_came)
@@ -95,7 +95,7 @@ late_arrives = (refl, refl, refl, refl)
 
 -- two of three fragments went out and were acknowledged
 abbrev two_went : SenderView
-two_went = sack_after (fill Interleaved 48 (asks (fresh_sender 1 1 4 100 true) 0 7 (1 ∷ 2 ∷ 3 ∷ 4 ∷ 5 ∷ 6 ∷ 7 ∷ 8 ∷ 9 ∷ 10 ∷ 11 ∷ 12 ∷ []))).view (sack 2 100 [])
+two_went = sack_after (fill Interleaved 48 (asks (fresh_sender 1 1 4 100 true plain_limits) 0 7 (1 ∷ 2 ∷ 3 ∷ 4 ∷ 5 ∷ 6 ∷ 7 ∷ 8 ∷ 9 ∷ 10 ∷ 11 ∷ 12 ∷ []))).view (sack 2 100 [])
 
 -- the message is abandoned: its end mark takes TSN 3
 abbrev ended : SenderView
@@ -110,7 +110,7 @@ end_is_passed = (refl, refl, refl)
 
 -- the peer lets both fragments go and waits for number 1
 abbrev two_came : ReceiverView
-two_came = takes Interleaved (takes Interleaved (fresh_receiver 1 1 100) (piece false true false 1 0 0 7 (1 ∷ 2 ∷ 3 ∷ 4 ∷ []))) (piece false false false 2 0 0 1 (5 ∷ 6 ∷ 7 ∷ 8 ∷ []))
+two_came = takes Interleaved (takes Interleaved (fresh_receiver 1 1 100 0) (piece false true false 1 0 0 7 (1 ∷ 2 ∷ 3 ∷ 4 ∷ []))) (piece false false false 2 0 0 1 (5 ∷ 6 ∷ 7 ∷ 8 ∷ []))
 
 end_arrives : ((forwards Interleaved two_came (forward_said Interleaved ended (point ended))).kept ≡ []) × ((forwards Interleaved two_came (forward_said Interleaved ended (point ended))).next 0 ≡ 1)
 end_arrives = (refl, refl)
@@ -123,7 +123,7 @@ next_has_one = refl
 
 -- one of three fragments fits; abandoned, the others don't go out
 abbrev one_went : SenderView
-one_went = abandon_after (fill Plain 20 (asks (fresh_sender 1 1 4 100 true) 0 7 (1 ∷ 2 ∷ 3 ∷ 4 ∷ 5 ∷ 6 ∷ 7 ∷ 8 ∷ 9 ∷ 10 ∷ []))).view 1
+one_went = abandon_after (fill Plain 20 (asks (fresh_sender 1 1 4 100 true plain_limits) 0 7 (1 ∷ 2 ∷ 3 ∷ 4 ∷ 5 ∷ 6 ∷ 7 ∷ 8 ∷ 9 ∷ 10 ∷ []))).view 1
 
 no_end : (one_went.plan.entries ≡ Part (ordered_lane 0) 0 0 ∷ Part (ordered_lane 0) 0 1 ∷ Part (ordered_lane 0) 0 2 ∷ []) × (indexes (fill Plain 200 (timed_out one_went)).wishes ≡ [])
     × (forward_chunk_of Plain 1500 one_went ≡ ForwardTsn (names_one 3 0 0))
@@ -133,7 +133,7 @@ no_end = (refl, refl, refl)
 
 -- the first was acknowledged, the second went out, the third waits; there is no fourth, and no ticket 0
 abbrev some : SenderView
-some = asks (sack_after (fill Plain 40 (asks (asks (fresh_sender 1 1 4 100 true) 0 0 (1 ∷ [])) 0 0 (2 ∷ []))).view (sack 1 100 [])) 0 0 (3 ∷ [])
+some = asks (sack_after (fill Plain 40 (asks (asks (fresh_sender 1 1 4 100 true plain_limits) 0 0 (1 ∷ [])) 0 0 (2 ∷ []))).view (sack 1 100 [])) 0 0 (3 ∷ [])
 
 answers : map (abandon_answer some) (0 ∷ 1 ∷ 2 ∷ 3 ∷ 4 ∷ []) ≡ Unknown ∷ Acknowledged ∷ Abandoned ∷ Withdrawn ∷ Unknown ∷ []
 answers = refl
@@ -156,7 +156,7 @@ reliable_answers = (refl, refl)
 -- ---- what is past its time: at its time, and not before
 
 abbrev timed : SenderView
-timed = queued (fill Plain 200 (queued (fresh_sender 1 1 4 100 true) (ordered_lane 0) 0 (1 ∷ []) (Some 500) None)).view (ordered_lane 0) 0 (2 ∷ []) (Some 400) None
+timed = queued (fill Plain 200 (queued (fresh_sender 1 1 4 100 true plain_limits) (ordered_lane 0) 0 (1 ∷ []) (Some 500) None)).view (ordered_lane 0) 0 (2 ∷ []) (Some 400) None
 
 at_its_moment : (map (abandoned (expired timed 499)) (1 ∷ 2 ∷ []) ≡ false ∷ false ∷ []) × ((expired timed 399) ≡ timed) × ((expired timed 400).queue ≡ []) × (map (abandoned (expired timed 500)) (1 ∷ 2 ∷ []) ≡ true ∷ false ∷ [])
 at_its_moment = (refl, refl, refl, refl)
@@ -165,7 +165,7 @@ at_its_moment = (refl, refl, refl, refl)
 
 -- a message of two fragments with a limit of one repeat, and one without after it; all went out
 abbrev once : SenderView
-once = (fill Plain 200 (asks (queued (fresh_sender 1 1 4 100 true) (ordered_lane 0) 0 (1 ∷ 2 ∷ 3 ∷ 4 ∷ 5 ∷ []) None (Some 1)) 0 0 (6 ∷ []))).view
+once = (fill Plain 200 (asks (queued (fresh_sender 1 1 4 100 true plain_limits) (ordered_lane 0) 0 (1 ∷ 2 ∷ 3 ∷ 4 ∷ 5 ∷ []) None (Some 1)) 0 0 (6 ∷ []))).view
 
 -- the data timer expires: nothing is worn yet, and all three are marked; of a packet with space for two fragments' chunks two go again
 abbrev twice : SenderView

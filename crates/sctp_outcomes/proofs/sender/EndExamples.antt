@@ -16,6 +16,9 @@ use Rattle.sctp_model.specs.world.Events.{OpenBoth, RefusedState}
 use Rattle.sctp_model.specs.world.Steps.{Step, OpenRefused}
 use Rattle.sctp_safety.proofs.machine.OpeningWorlds.{open_seal}
 use Rattle.sctp_outcomes.proofs.sender.PaceExamples.{worn_two, worn_three}
+use Rattle.sctp_model.specs.end.Options.{agreed_zero_checksum, own_options, is_value, OVER_DTLS}
+use Rattle.sctp_model.specs.end.Reports.{written}
+use Rattle.sctp_safety.proofs.machine.OwnOptions.{zero_read}
 
 abbrev set_up : Configuration
 set_up = plain_configuration 5000 5001 1500 1400 65536 3 7
@@ -47,7 +50,7 @@ abandons_not = (refl, refl, refl, refl)
 abbrev echoing_at : (repeats wait : ℕ) → EndView
 echoing_at repeats wait =
     with_timer CookieAlarm (record { wait = wait; repeats = repeats; expiry = Some 1100 })
-    (record (fresh_end (record set_up { least_wait = 0 }) Caller opened_so) { moment = 140; pace = Some (fresh_pace false 1488 65536) })
+    (record (fresh_end (record set_up { least_wait = 0 }) Caller opened_so) { moment = 140; pace = Some (fresh_pace false 1 false 16 1488 65536) })
 
 abbrev smoothed_at : EndView → Option (Option Smoothed)
 smoothed_at e = option_map (λ (p : Pace). p.trips.smoothed) e.pace
@@ -56,7 +59,7 @@ abbrev acked : (repeats wait : ℕ) → EndView
 acked repeats wait = acknowledged_echo (record { own = 7; peer = 9 }) (echoing_at repeats wait)
 
 -- a trip of 40: SRTT 40, RTTVAR 20, the wait 120; after an expiry none, and the doubled wait
-echoes : (echo_trip 140 ((echoing_at 0 1000).timers CookieAlarm) ≡ Some 40) × (smoothed_at (acked 0 1000) ≡ Some (Some (record { eight = 320; four = 80 }))) × (((acked 0 1000).timers DataAlarm).wait ≡ 120)
+echoes : (echo_trip 1000 140 ((echoing_at 0 1000).timers CookieAlarm) ≡ Some 40) × (smoothed_at (acked 0 1000) ≡ Some (Some (record { eight = 320; four = 80 }))) × (((acked 0 1000).timers DataAlarm).wait ≡ 120)
     × (smoothed_at (acked 1 2000) ≡ Some None) × (((acked 1 2000).timers DataAlarm).wait ≡ 2000)
 echoes = (refl, refl, refl, refl, refl)
 
@@ -73,6 +76,7 @@ body reset = record {
   partial = false;
   interleave = false;
   reset = reset;
+  zero_checksum = false;
 }
 
 abbrev listens : (fast reset : Bool) → EndView
@@ -82,6 +86,19 @@ listens fast reset = record (fresh_end (record set_up { fast_retransmit = fast; 
 says_reset : (body_read (listens false false) 9 (Some (body true)) ≡ Strange) × (body_read (listens false true) 9 (Some (body true)) ≡ CookieOpens (body true))
     × (body_read (listens false false) 9 (Some (body false)) ≡ CookieOpens (body false)) × (body_read (listens false true) 9 (Some (body false)) ≡ CookieOpens (body false))
 says_reset = (refl, refl, refl, refl)
+
+-- nor is one that says zero checksums, to a listener without
+says_zero : (body_read (listens false false) 9 (Some (record (body false) { zero_checksum = true })) ≡ Strange)
+    × (body_read (record (listens false false) { configuration = record set_up { zero_checksum = true } }) 9 (Some (record (body false) { zero_checksum = true })) ≡ CookieOpens (record (body false) { zero_checksum = true }))
+says_zero = (refl, refl)
+
+-- zero checksums are agreed on if both say that DTLS is below them, and not by another method (RFC 9653)
+abbrev zeros : Configuration
+zeros = record set_up { zero_checksum = true }
+
+agrees : (agreed_zero_checksum zeros (written (own_options zeros)) ≡ true) × (agreed_zero_checksum set_up (written (own_options zeros)) ≡ false) × (agreed_zero_checksum zeros (written (own_options set_up)) ≡ false)
+    × (is_value OVER_DTLS (Some (0 ∷ 0 ∷ 0 ∷ 2 ∷ [])) ≡ false) × (is_value OVER_DTLS (Some (0 ∷ 0 ∷ 0 ∷ 1 ∷ 0 ∷ [])) ≡ false)
+agrees = (zero_read zeros zeros, zero_read set_up zeros, zero_read zeros set_up, refl, refl)
 
 -- the listener's trip is the age of its cookie, 80; without a pace none is noted
 ages : (smoothed_at (begun (body false) (listens true false)) ≡ Some (Some (record { eight = 640; four = 160 }))) × (((begun (body false) (listens true false)).timers DataAlarm).wait ≡ 240)

@@ -8,13 +8,13 @@ use Rattle.sctp_model.specs.sender.Entries.{in_flight}
 use Rattle.sctp_model.specs.sender.Filling.{fill}
 use Rattle.sctp_model.specs.sender.SackTaken.{sack_after}
 use Rattle.sctp_model.specs.sender.Abandoning.{timed_out}
-use Rattle.sctp_outcomes.proofs.sender.Makers.{asks, asks_unordered, piece, chunks, indexes, sack}
+use Rattle.sctp_outcomes.proofs.sender.Makers.{asks, asks_unordered, piece, chunks, indexes, sack, plain_limits}
 
 -- ---- three fragments beside two further streams, over the wrap of the TSN
 
 -- three streams, fragments of 4 bytes, first TSN 4294967295
 abbrev asked : SenderView
-asked = asks_unordered (asks (asks (fresh_sender 4294967295 3 4 100 true) 0 7 (1 ∷ 2 ∷ 3 ∷ 4 ∷ 5 ∷ 6 ∷ 7 ∷ 8 ∷ 9 ∷ [])) 1 8 (11 ∷ 12 ∷ 13 ∷ 14 ∷ 15 ∷ [])) 2 9 (21 ∷ [])
+asked = asks_unordered (asks (asks (fresh_sender 4294967295 3 4 100 true plain_limits) 0 7 (1 ∷ 2 ∷ 3 ∷ 4 ∷ 5 ∷ 6 ∷ 7 ∷ 8 ∷ 9 ∷ [])) 1 8 (11 ∷ 12 ∷ 13 ∷ 14 ∷ 15 ∷ [])) 2 9 (21 ∷ [])
 
 -- under DATA a message goes whole before the next one; each fragment has the payload id
 of_data : chunks Plain (fill Plain 200 asked).wishes
@@ -55,7 +55,7 @@ second_is = refl
 
 -- a stream goes on with its message in part before it begins the next one, ordered or not, and a stream with nothing is passed over
 abbrev one_stream : SenderView
-one_stream = asks (asks_unordered (asks (fresh_sender 1 3 4 100 true) 2 0 (1 ∷ 2 ∷ 3 ∷ 4 ∷ 5 ∷ [])) 2 0 (6 ∷ [])) 2 0 (7 ∷ [])
+one_stream = asks (asks_unordered (asks (fresh_sender 1 3 4 100 true plain_limits) 2 0 (1 ∷ 2 ∷ 3 ∷ 4 ∷ 5 ∷ [])) 2 0 (6 ∷ [])) 2 0 (7 ∷ [])
 
 one_at_a_time : (fill Interleaved 200 one_stream).view.plan.entries ≡ Part (ordered_lane 2) 0 0 ∷ Part (ordered_lane 2) 0 1 ∷ Part (unordered_lane 2) 0 0 ∷ Part (ordered_lane 2) 1 0 ∷ []
 one_at_a_time = refl
@@ -78,7 +78,7 @@ one_goes = (refl, refl, refl)
 
 -- a message of 16 bytes in four fragments, against a window of this many bytes
 abbrev sixteen : (rwnd : ℕ) → SenderView
-sixteen rwnd = asks (fresh_sender 1 1 4 rwnd true) 0 0 (1 ∷ 2 ∷ 3 ∷ 4 ∷ 5 ∷ 6 ∷ 7 ∷ 8 ∷ 9 ∷ 10 ∷ 11 ∷ 12 ∷ 13 ∷ 14 ∷ 15 ∷ 16 ∷ [])
+sixteen rwnd = asks (fresh_sender 1 1 4 rwnd true plain_limits) 0 0 (1 ∷ 2 ∷ 3 ∷ 4 ∷ 5 ∷ 6 ∷ 7 ∷ 8 ∷ 9 ∷ 10 ∷ 11 ∷ 12 ∷ 13 ∷ 14 ∷ 15 ∷ 16 ∷ [])
 
 -- how many chunks go
 abbrev many : Format → (rwnd : ℕ) → ℕ

@@ -2,9 +2,13 @@
 use Rattle.std.proofs.Common.{ℕ, Bool, false, List, [], ◌∷◌, map, None}
 use Rattle.sctp_model.specs.messages.Format.{Format, ordered_lane, unordered_lane}
 use Rattle.sctp_model.specs.wire.Chunk.{PieceMeaning, BlockMeaning, SackMeaning, ForwardMeaning, ChunkMeaning}
-use Rattle.sctp_model.specs.sender.SenderView.{SenderView}
+use Rattle.sctp_model.specs.sender.SenderView.{SenderView, SendLimits}
 use Rattle.sctp_model.specs.sender.Queueing.{queued}
 use Rattle.sctp_model.specs.sender.Filling.{Wish, chunk_of}
+
+-- messages of 65,536 bytes at most, and no limit of the bytes that wait
+abbrev pub plain_limits : SendLimits
+plain_limits = record { message = 65536; queue = None }
 
 -- an ordered message is queued on a stream
 abbrev pub asks : SenderView → (stream payload : ℕ) → (bytes : List ℕ) → SenderView

@@ -1,5 +1,5 @@
 -- What is refused and in which order, computed: lengths at their limits, a full queue, tickets and TSNs that run out.
-use Rattle.std.proofs.Common.{◌≡◌, ℕ, suc, true, List, [], ◌∷◌, ◌++◌, length, Some, None, refl, ap, arith, length-append}
+use Rattle.std.proofs.Common.{◌≡◌, ℕ, suc, true, List, [], ◌∷◌, ◌++◌, length, Some, None, refl, ap, arith, length-append, Option}
 use Rattle.std.specs.Prelude.{◌+◌, ◌==◌, replicate}
 use Rattle.std.specs.Option.{option_or}
 use Rattle.sctp_model.specs.messages.Format.{ordered_lane}
@@ -9,10 +9,11 @@ use Rattle.sctp_model.specs.sender.Words.{when}
 use Rattle.sctp_model.specs.sender.Entries.{latest, entry_lane}
 use Rattle.sctp_model.specs.sender.Queueing.{refusal, cut, promised, NoSuchStream, Empty, TooLong, QueueFull, Spent}
 use Rattle.sctp_model.proofs.sender.CutLaws.{length-cut}
+use Rattle.sctp_outcomes.proofs.sender.Makers.{plain_limits}
 
 -- one stream, fragments of 4 bytes
 abbrev fresh : SenderView
-fresh = fresh_sender 1 1 4 100 true
+fresh = fresh_sender 1 1 4 100 true plain_limits
 
 -- ---- lengths
 
@@ -51,6 +52,13 @@ last_ticket = refl
 
 last_place : refusal (record fresh { queue = replicate 1023 waiting }) 0 (1 ∷ []) ≡ None
 last_place = refl
+
+-- the bytes that wait may be as many as their limit, if there is one, and no more
+abbrev limited : Option ℕ → SenderView
+limited most = record fresh { limits = record { message = 65536; queue = most }; queue = replicate 9 waiting }
+
+last_byte : refusal (limited (Some 10)) 0 (1 ∷ []) ∷ refusal (limited (Some 10)) 0 (1 ∷ 2 ∷ []) ∷ refusal (limited None) 0 (1 ∷ 2 ∷ []) ∷ [] ≡ None ∷ Some QueueFull ∷ None ∷ []
+last_byte = refl
 
 -- ---- TSNs that run out by fragments still owed
 

@@ -1,14 +1,14 @@
 -- A sender reports why a message is refused, and accepts any other, as the relations say.
-use Rattle.std.proofs.Common.{◌≡◌, ℕ, zero, suc, ◌+◌, ◌<◌, ◌≤◌, ◌⊎◌, inl, inr, Bool, true, false, ◌||◌, ◌==◌, List, [], ◌∷◌, length, Option, Some, None, refl, sym, subst, arith, not}
+use Rattle.std.proofs.Common.{◌≡◌, ℕ, zero, suc, ◌+◌, ◌<◌, ◌≤◌, ◌⊎◌, inl, inr, Bool, true, false, ◌||◌, ◌==◌, List, [], ◌∷◌, length, Option, Some, None, refl, sym, subst, arith, not, ap, ◌∙◌}
 use Rattle.std.specs.Prelude.{nat_lt, nat_le}
 use Rattle.std.proofs.lemmas.Bool.{or_parts, or_left, or_right}
 use Rattle.std.proofs.lemmas.Bool.Decides.{nat_tests}
-use Rattle.sctp_model.specs.numbers.Limits.{LONGEST_MESSAGE, QUEUE_LIMIT, TICKET_LIMIT, TSN_LIMIT}
+use Rattle.sctp_model.specs.numbers.Limits.{QUEUE_LIMIT, TICKET_LIMIT, TSN_LIMIT}
 use Rattle.sctp_model.specs.sender.SenderView.{SenderView}
-use Rattle.sctp_model.specs.sender.Words.{when, first_there}
-use Rattle.sctp_model.specs.sender.Queueing.{Refusal, NoSuchStream, Empty, TooLong, QueueFull, Spent, cut, owed_for, promised, refusal, Resetting}
+use Rattle.sctp_model.specs.sender.Words.{when, first_there, some_passes}
+use Rattle.sctp_model.specs.sender.Queueing.{Refusal, NoSuchStream, Empty, TooLong, QueueFull, Spent, cut, owed_for, promised, refusal, Resetting, is_over, queued_bytes}
 use Rattle.sctp_model.proofs.sender.CutLaws.{cut_some}
-use Rattle.sctp_outcomes.specs.sender.Refusals.{IsSendable, MayWait, IsTooMuch, IsRefused, Has_no_stream, Has_no_byte, Has_too_many, Has_no_place, Has_no_ticket, Has_no_numbers, IsAccepted, RefusalIsTold, AcceptedHasNoReason, Is_reset}
+use Rattle.sctp_outcomes.specs.sender.Refusals.{IsSendable, MayWait, IsTooMuch, IsRefused, Has_no_stream, Has_no_byte, Has_too_many, Has_no_place, Has_no_ticket, Has_no_numbers, IsAccepted, RefusalIsTold, AcceptedHasNoReason, Is_reset, IsOver, Has_no_space}
 use Rattle.sctp_outcomes.proofs.sender.SackCases.{or_way}
 use Rattle.sctp_outcomes.proofs.sender.CutTold.{cut_is_computed}
 use Rattle.sctp_model.specs.sender.Outgoing.{is_sending}
@@ -71,11 +71,11 @@ open_is false off = absurd (cc)
 abbrev no_byte : List ℕ → Bool
 no_byte bytes = length bytes == 0
 
-abbrev too_long : List ℕ → Bool
-too_long bytes = nat_lt LONGEST_MESSAGE (length bytes)
+abbrev too_long : SenderView → List ℕ → Bool
+too_long v bytes = nat_lt v.limits.message (length bytes)
 
-abbrev no_place : SenderView → Bool
-no_place v = nat_le QUEUE_LIMIT (length v.queue)
+abbrev no_place : SenderView → List ℕ → Bool
+no_place v bytes = nat_le QUEUE_LIMIT (length v.queue) || is_over v bytes
 
 abbrev no_ticket : SenderView → Bool
 no_ticket v = nat_le TICKET_LIMIT v.tickets
@@ -157,25 +157,56 @@ much_on v bytes large some h =
     let past : TSN_LIMIT < promised v + suc (length (cut v.fragment bytes)) = subst (λ (xs : List (List ℕ)). TSN_LIMIT < promised v + suc (length xs)) same h.more in
     lt_on TSN_LIMIT (promised v + owed_for (length (cut v.fragment bytes))) (subst (λ (n : ℕ). TSN_LIMIT < promised v + n) (sym (owes_cut v bytes large some)) past)
 
+-- ---- the bytes that wait
+
+abbrev passes_limit : SenderView → List ℕ → ℕ → Bool
+passes_limit v bytes n = nat_lt n (queued_bytes v.queue + length bytes)
+
+over_is : (v : SenderView) (bytes : List ℕ) → is_over v bytes ≡ true → IsOver v bytes
+over_is v bytes on = go v.limits.queue refl on
+  where
+    go : (o : Option ℕ) → v.limits.queue ≡ o → some_passes (passes_limit v bytes) o ≡ true → IsOver v bytes
+    go None is off = absurd (cc)
+    go (Some n) is up = record { most = n; limited = is; more = lt_is n (queued_bytes v.queue + length bytes) up }
+
+over_on : (v : SenderView) (bytes : List ℕ) → IsOver v bytes → is_over v bytes ≡ true
+over_on v bytes h = ap (λ (o : Option ℕ). some_passes (passes_limit v bytes) o) h.limited ∙ lt_on h.most (queued_bytes v.queue + length bytes) h.more
+
+space_is : (v : SenderView) (bytes : List ℕ) → is_over v bytes ≡ false → (most : ℕ) → v.limits.queue ≡ Some most → queued_bytes v.queue + length bytes ≤ most
+space_is v bytes off most is = off_lt most (queued_bytes v.queue + length bytes) (sym (ap (λ (o : Option ℕ). some_passes (passes_limit v bytes) o) is) ∙ off)
+
+space_off : (v : SenderView) (bytes : List ℕ) → ((most : ℕ) → v.limits.queue ≡ Some most → queued_bytes v.queue + length bytes ≤ most) → is_over v bytes ≡ false
+space_off v bytes space = go v.limits.queue refl
+  where
+    go : (o : Option ℕ) → v.limits.queue ≡ o → some_passes (passes_limit v bytes) o ≡ false
+    go None is = refl
+    go (Some n) is = lt_off n (queued_bytes v.queue + length bytes) (space n is)
+
+-- a place, and space
+placed : (v : SenderView) (s : ℕ) (bytes : List ℕ) → MayWait v s bytes → no_place v bytes ≡ false
+placed v s bytes h = rw (le_off QUEUE_LIMIT (length v.queue) h.place, space_off v bytes h.space) refl
+
 -- ---- both ways
 
-sendable_is : (v : SenderView) (s : ℕ) (bytes : List ℕ) → no_stream v s ≡ false → is_shut v s ≡ false → no_byte bytes ≡ false → too_long bytes ≡ false → IsSendable v s bytes
-sendable_is v s bytes a z b c = record { there = off_le v.streams s a; sends = open_is (is_sending (v.resets.sending s)) z; some = some_is bytes b; short = off_lt LONGEST_MESSAGE (length bytes) c }
+sendable_is : (v : SenderView) (s : ℕ) (bytes : List ℕ) → no_stream v s ≡ false → is_shut v s ≡ false → no_byte bytes ≡ false → too_long v bytes ≡ false → IsSendable v s bytes
+sendable_is v s bytes a z b c = record { there = off_le v.streams s a; sends = open_is (is_sending (v.resets.sending s)) z; some = some_is bytes b; short = off_lt v.limits.message (length bytes) c }
 
-waits_is : (v : SenderView) (s : ℕ) (bytes : List ℕ) → no_stream v s ≡ false → is_shut v s ≡ false → no_byte bytes ≡ false → too_long bytes ≡ false → no_place v ≡ false → MayWait v s bytes
-waits_is v s bytes a z b c d = record { sendable = sendable_is v s bytes a z b c; place = off_le QUEUE_LIMIT (length v.queue) d }
+waits_is : (v : SenderView) (s : ℕ) (bytes : List ℕ) → no_stream v s ≡ false → is_shut v s ≡ false → no_byte bytes ≡ false → too_long v bytes ≡ false → no_place v bytes ≡ false → MayWait v s bytes
+waits_is v s bytes a z b c d =
+    let parts = or_parts (nat_le QUEUE_LIMIT (length v.queue)) (is_over v bytes) d in
+    record { sendable = sendable_is v s bytes a z b c; place = off_le QUEUE_LIMIT (length v.queue) parts.0; space = space_is v bytes parts.1 }
 
 record Sends (v : SenderView) (s : ℕ) (bytes : List ℕ) : Type 0 where
   a : no_stream v s ≡ false
   z : is_sending (v.resets.sending s) ≡ true
   b : no_byte bytes ≡ false
-  c : too_long bytes ≡ false
+  c : too_long v bytes ≡ false
 
 sends : (v : SenderView) (s : ℕ) (bytes : List ℕ) → IsSendable v s bytes → Sends v s bytes
-sends v s bytes h = record { a = le_off v.streams s h.there; z = h.sends; b = some_on bytes h.some; c = lt_off LONGEST_MESSAGE (length bytes) h.short }
+sends v s bytes h = record { a = le_off v.streams s h.there; z = h.sends; b = some_on bytes h.some; c = lt_off v.limits.message (length bytes) h.short }
 
 pub refusal_is_told : RefusalIsTold
-refusal_is_told v s bytes x large = (λ is. forth (no_stream v s) (is_shut v s) (no_byte bytes) (too_long bytes) (no_place v) (spent v bytes) x refl refl refl refl refl refl (told_is (no_stream v s) (is_shut v s) (no_byte bytes) (too_long bytes) (no_place v) (spent v bytes) x is), λ h. back x h)
+refusal_is_told v s bytes x large = (λ is. forth (no_stream v s) (is_shut v s) (no_byte bytes) (too_long v bytes) (no_place v bytes) (spent v bytes) x refl refl refl refl refl refl (told_is (no_stream v s) (is_shut v s) (no_byte bytes) (too_long v bytes) (no_place v bytes) (spent v bytes) x is), λ h. back x h)
   where
     by_spent : MayWait v s bytes → (no_ticket v ≡ true) ⊎ (too_much v bytes ≡ true) → IsRefused v s bytes Spent
     by_spent waits way = elim way [
@@ -183,30 +214,40 @@ refusal_is_told v s bytes x large = (λ is. forth (no_stream v s) (is_shut v s) 
       | inr much ↦ Has_no_numbers waits (much_is v bytes large (waits.sendable.some) much)
     ]
 
-    forth : (a z b c d e : Bool) (y : Refusal) → no_stream v s ≡ a → is_shut v s ≡ z → no_byte bytes ≡ b → too_long bytes ≡ c → no_place v ≡ d → spent v bytes ≡ e → IsTold a z b c d e y → IsRefused v s bytes y
+    by_full : IsSendable v s bytes → (nat_le QUEUE_LIMIT (length v.queue) ≡ true) ⊎ (is_over v bytes ≡ true) → IsRefused v s bytes QueueFull
+    by_full may way = elim way [
+      | inl full ↦ Has_no_place may (le_is QUEUE_LIMIT (length v.queue) full)
+      | inr over ↦ Has_no_space may (over_is v bytes over)
+    ]
+
+    forth : (a z b c d e : Bool) (y : Refusal) → no_stream v s ≡ a → is_shut v s ≡ z → no_byte bytes ≡ b → too_long v bytes ≡ c → no_place v bytes ≡ d → spent v bytes ≡ e → IsTold a z b c d e y → IsRefused v s bytes y
     forth _ _ _ _ _ _ _ is_a is_z is_b is_c is_d is_e (First z b c d e) = Has_no_stream (le_is v.streams s is_a)
     forth _ _ _ _ _ _ _ is_a is_z is_b is_c is_d is_e (Shut b c d e) = Is_reset (off_le v.streams s is_a) (shut_is (is_sending (v.resets.sending s)) is_z)
     forth _ _ _ _ _ _ _ is_a is_z is_b is_c is_d is_e (Second c d e) = Has_no_byte (off_le v.streams s is_a) (open_is (is_sending (v.resets.sending s)) is_z) (empty_is bytes is_b)
-    forth _ _ _ _ _ _ _ is_a is_z is_b is_c is_d is_e (Third d e) = Has_too_many (off_le v.streams s is_a) (open_is (is_sending (v.resets.sending s)) is_z) (lt_is LONGEST_MESSAGE (length bytes) is_c)
-    forth _ _ _ _ _ _ _ is_a is_z is_b is_c is_d is_e (Fourth e) = Has_no_place (sendable_is v s bytes is_a is_z is_b is_c) (le_is QUEUE_LIMIT (length v.queue) is_d)
+    forth _ _ _ _ _ _ _ is_a is_z is_b is_c is_d is_e (Third d e) = Has_too_many (off_le v.streams s is_a) (open_is (is_sending (v.resets.sending s)) is_z) (lt_is v.limits.message (length bytes) is_c)
+    forth _ _ _ _ _ _ _ is_a is_z is_b is_c is_d is_e (Fourth e) = by_full (sendable_is v s bytes is_a is_z is_b is_c) (or_way (nat_le QUEUE_LIMIT (length v.queue)) (is_over v bytes) is_d)
     forth _ _ _ _ _ _ _ is_a is_z is_b is_c is_d is_e Fifth = by_spent (waits_is v s bytes is_a is_z is_b is_c is_d) (or_way (no_ticket v) (too_much v bytes) is_e)
 
     spent_back : MayWait v s bytes → spent v bytes ≡ true → refusal v s bytes ≡ Some Spent
-    spent_back waits on = let r = sends v s bytes waits.sendable in rw (r.a, r.z, r.b, r.c, le_off QUEUE_LIMIT (length v.queue) waits.place, on) refl
+    spent_back waits on = let r = sends v s bytes waits.sendable in rw (r.a, r.z, r.b, r.c, placed v s bytes waits, on) refl
+
+    full_back : IsSendable v s bytes → no_place v bytes ≡ true → refusal v s bytes ≡ Some QueueFull
+    full_back h on = let r = sends v s bytes h in rw (r.a, r.z, r.b, r.c, on) refl
 
     back : (y : Refusal) → IsRefused v s bytes y → refusal v s bytes ≡ Some y
     back _ (Has_no_stream none) = rw (le_on v.streams s none) refl
     back _ (Is_reset there shut) = rw (le_off v.streams s there, shut) refl
     back _ (Has_no_byte there sends none) = rw (le_off v.streams s there, sends, none) refl
-    back _ (Has_too_many there sends long) = rw (le_off v.streams s there, sends, some_on bytes (omega (arith, long)), lt_on LONGEST_MESSAGE (length bytes) long) refl
-    back _ (Has_no_place h full) = let r = sends v s bytes h in rw (r.a, r.z, r.b, r.c, le_on QUEUE_LIMIT (length v.queue) full) refl
+    back _ (Has_too_many there sends long) = rw (le_off v.streams s there, sends, some_on bytes (omega (arith, long)), lt_on v.limits.message (length bytes) long) refl
+    back _ (Has_no_place h full) = full_back h (or_left (nat_le QUEUE_LIMIT (length v.queue)) (is_over v bytes) (le_on QUEUE_LIMIT (length v.queue) full))
+    back _ (Has_no_space h over) = full_back h (or_right (nat_le QUEUE_LIMIT (length v.queue)) (is_over v bytes) (over_on v bytes over))
     back _ (Has_no_ticket waits none) = spent_back waits (or_left (no_ticket v) (too_much v bytes) (le_on TICKET_LIMIT v.tickets none))
     back _ (Has_no_numbers waits much) = spent_back waits (or_right (no_ticket v) (too_much v bytes) (much_on v bytes large waits.sendable.some much))
 
 pub accepted_has_no_reason : AcceptedHasNoReason
-accepted_has_no_reason v s bytes large = (λ is. forth (none_told (no_stream v s) (is_shut v s) (no_byte bytes) (too_long bytes) (no_place v) (spent v bytes) is), λ h. back h)
+accepted_has_no_reason v s bytes large = (λ is. forth (none_told (no_stream v s) (is_shut v s) (no_byte bytes) (too_long v bytes) (no_place v bytes) (spent v bytes) is), λ h. back h)
   where
-    forth : AreNone (no_stream v s) (is_shut v s) (no_byte bytes) (too_long bytes) (no_place v) (spent v bytes) → IsAccepted v s bytes
+    forth : AreNone (no_stream v s) (is_shut v s) (no_byte bytes) (too_long v bytes) (no_place v bytes) (spent v bytes) → IsAccepted v s bytes
     forth off =
         let waits = waits_is v s bytes off.first off.shut off.second off.third off.fourth in
         let parts = or_parts (no_ticket v) (too_much v bytes) off.fifth in
@@ -220,7 +261,7 @@ accepted_has_no_reason v s bytes large = (λ is. forth (none_told (no_stream v s
     back h =
         let r = sends v s bytes h.waits.sendable in
         let some = h.waits.sendable.some in
-        rw (r.a, r.z, r.b, r.c, le_off QUEUE_LIMIT (length v.queue) h.waits.place, le_off TICKET_LIMIT v.tickets h.ticket, none (too_much v bytes) (λ on. h.numbers (much_is v bytes large some on))) refl
+        rw (r.a, r.z, r.b, r.c, placed v s bytes h.waits, le_off TICKET_LIMIT v.tickets h.ticket, none (too_much v bytes) (λ on. h.numbers (much_is v bytes large some on))) refl
       where
         none : (b : Bool) → (b ≡ true → ⊥) → b ≡ false
         none true not_so = absurd (not_so refl)

@@ -12,16 +12,17 @@ use Rattle.sctp_model.specs.sender.PieceSaid.{number_said}
 use Rattle.sctp_model.specs.sender.Resetting.{resetting, may_ask, asked, named_next, retried, request_said, response_taken}
 use Rattle.sctp_model.specs.receiver.ReceiverView.{Handed, ReceiverView, fresh_receiver}
 use Rattle.sctp_model.specs.receiver.ResetTaken.{reset_answer, answer_in_turn, reset_taken, old_waiting, told_of}
-use Rattle.sctp_model.specs.end.EndView.{EndView, ResetAlarm, unused_timer}
+use Rattle.sctp_model.specs.end.EndView.{EndView, ResetAlarm, unused_timer, BeatAlarm, GuardAlarm}
+use Rattle.sctp_model.specs.end.Clock.{with_timer}
 use Rattle.sctp_model.specs.end.Reconfiguring.{response_heard}
-use Rattle.sctp_outcomes.proofs.sender.Makers.{sack}
+use Rattle.sctp_outcomes.proofs.sender.Makers.{sack, plain_limits}
 use Rattle.sctp_model.specs.numbers.Numbers.{u16_bytes, u32_bytes, u16_at, u32_at}
 
 -- ---- a request
 
 -- one byte went out on stream 0, index 1 of initial TSN 1; then it is acknowledged
 abbrev sent : SenderView
-sent = (fill Plain 100 (queued (fresh_sender 1 2 1400 65536 false) (ordered_lane 0) 0 (97 ∷ []) None None)).view
+sent = (fill Plain 100 (queued (fresh_sender 1 2 1400 65536 false plain_limits) (ordered_lane 0) 0 (97 ∷ []) None None)).view
 
 abbrev acknowledged : SenderView
 acknowledged = sack_after sent (sack 1 65536 [])
@@ -50,7 +51,7 @@ unfolding u16_bytes u32_bytes u16_at u32_at
 bytes = refl
 
 -- with nothing ever sent the last TSN is the one before the first
-empty : request_said (asked (resetting (fresh_sender 1 1 1400 65536 false) 0)) (record { first = 1; last = 0; streams = 0 ∷ []; numbering = FirstNumber }) ≡ record { number = 1; last = 0; streams = 0 ∷ [] }
+empty : request_said (asked (resetting (fresh_sender 1 1 1400 65536 false plain_limits) 0)) (record { first = 1; last = 0; streams = 0 ∷ []; numbering = FirstNumber }) ≡ record { number = 1; last = 0; streams = 0 ∷ [] }
 empty = refl
 
 -- ---- its answer
@@ -91,6 +92,13 @@ uncounted_twice : (two_back.resets.made ≡ 2) × ((response_taken two_back 2 5)
     × ((response_taken (response_taken two_back 2 5) 1 5).resets.sending 0 ≡ Refuses)
 uncounted_twice = (refl, refl, refl, refl)
 
+-- two copies of it arrive there: in progress under the later number, and then refused: it goes back, too
+abbrev copies : SenderView
+copies = response_taken (response_taken (retried kept) 2 6) 2 5
+
+uncounted_copy : (copies.resets.made ≡ 1) × (copies.resets.sending 0 ≡ Resets) × ((response_taken copies 1 1).resets.sending 0 ≡ Sends)
+uncounted_copy = (refl, refl, refl)
+
 -- the next request for the same stream, with nothing sent between, names it twice; the one after that once
 abbrev once_more : SenderView → SenderView
 once_more v = asked (resetting (response_taken v v.resets.made 1) 0)
@@ -99,13 +107,18 @@ named : named_next (resetting (response_taken asks 1 1) 0) ∷ named_next (reset
 named = refl
 
 -- answered, its timer is as if it had never run: its expiries don't count for the next request
-calm : (e : EndView) → (response_heard (record e { sender = asks }) 1 1).timers ResetAlarm ≡ unused_timer
+calm : (e : EndView) → (response_heard (record e { sender = asks }) 1 1).timers ResetAlarm ≡ unused_timer e.configuration.first_wait
 calm e = refl
+
+-- in progress: the timer starts anew, as if it had never expired
+patient : (e : EndView) → (response_heard (with_timer ResetAlarm (record { wait = 60000; repeats = 9; expiry = Some 90000 }) (record e { sender = asks; moment = 7; pace = None; configuration = record e.configuration { first_wait = 1000 } })) 1 6).timers ResetAlarm
+    ≡ record { wait = 1000; repeats = 0; expiry = Some 1007 }
+patient e = refl
 
 -- ---- at the receiver
 
 abbrev fresh : ReceiverView
-fresh = fresh_receiver 1 2 65536
+fresh = fresh_receiver 1 2 65536 0
 
 abbrev of : (number last : ℕ) → List ℕ → ResetMeaning
 of number last streams = record { number = number; last = last; streams = streams }

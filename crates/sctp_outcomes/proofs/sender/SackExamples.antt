@@ -7,11 +7,11 @@ use Rattle.sctp_model.specs.sender.Entries.{in_flight}
 use Rattle.sctp_model.specs.sender.Filling.{fill}
 use Rattle.sctp_model.specs.sender.SackTaken.{SackFault, sack_fault, sack_after, shutdown_fault, shutdown_after, Stale, Beyond, BadBlock}
 use Rattle.sctp_model.specs.sender.Abandoning.{timed_out}
-use Rattle.sctp_outcomes.proofs.sender.Makers.{asks, indexes, sack, block}
+use Rattle.sctp_outcomes.proofs.sender.Makers.{asks, indexes, sack, block, plain_limits}
 
 -- five fragments of 4 bytes went out, with the TSNs 4294967294, 4294967295, 0, 1 and 2
 abbrev out : SenderView
-out = (fill Plain 200 (asks (fresh_sender 4294967294 1 4 100 true) 0 0 (1 ∷ 2 ∷ 3 ∷ 4 ∷ 5 ∷ 6 ∷ 7 ∷ 8 ∷ 9 ∷ 10 ∷ 11 ∷ 12 ∷ 13 ∷ 14 ∷ 15 ∷ 16 ∷ 17 ∷ 18 ∷ 19 ∷ 20 ∷ []))).view
+out = (fill Plain 200 (asks (fresh_sender 4294967294 1 4 100 true plain_limits) 0 0 (1 ∷ 2 ∷ 3 ∷ 4 ∷ 5 ∷ 6 ∷ 7 ∷ 8 ∷ 9 ∷ 10 ∷ 11 ∷ 12 ∷ 13 ∷ 14 ∷ 15 ∷ 16 ∷ 17 ∷ 18 ∷ 19 ∷ 20 ∷ []))).view
 
 -- ---- faults
 

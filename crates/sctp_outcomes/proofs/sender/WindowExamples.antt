@@ -8,7 +8,7 @@ use Rattle.sctp_model.specs.sender.SenderView.{SenderView, fresh_sender}
 use Rattle.sctp_model.specs.sender.Words.{count_up}
 use Rattle.sctp_model.specs.sender.Queueing.{fragment_of, cut}
 use Rattle.sctp_model.specs.sender.Filling.{fill}
-use Rattle.sctp_outcomes.proofs.sender.Makers.{asks}
+use Rattle.sctp_outcomes.proofs.sender.Makers.{asks, plain_limits}
 
 -- ---- a message of one byte repeated, cut
 
@@ -37,7 +37,7 @@ cut_is = cut_long (replicate 65536 7) (length-replicate {A = ℕ} 65536 7) ∙ m
 
 -- a message of these fragments waits
 abbrev waits : (rwnd : ℕ) → List (List ℕ) → SenderView
-waits rwnd xs = record (fresh_sender 1 1 1400 rwnd true) {
+waits rwnd xs = record (fresh_sender 1 1 1400 rwnd true plain_limits) {
   queue = record { lane = ordered_lane 0; message = record { ticket = 1; payload = 0; fragments = xs; until = None; limit = None } } ∷ [];
   tickets = 1;
 }
@@ -48,7 +48,7 @@ many rwnd xs = length (fill Plain 70000 (waits rwnd xs)).wishes
 
 -- this many go of a message
 abbrev go : (rwnd : ℕ) → List ℕ → ℕ
-go rwnd bytes = length (fill Plain 70000 (asks (fresh_sender 1 1 1400 rwnd true) 0 0 bytes)).wishes
+go rwnd bytes = length (fill Plain 70000 (asks (fresh_sender 1 1 1400 rwnd true plain_limits) 0 0 bytes)).wishes
 
 so_many : (rwnd : ℕ) (bytes : List ℕ) → cut 1400 bytes ≡ fragments → go rwnd bytes ≡ many rwnd fragments
 so_many rwnd bytes is = ap (λ (xs : List (List ℕ)). many rwnd xs) is

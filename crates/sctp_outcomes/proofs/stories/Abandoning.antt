@@ -81,7 +81,7 @@ comes_6 = PacketComes (Deliver A 2) B (Some packet_2) (acknowledges Established 
     (Next (end_now p5 B) skipped (rested handed_on) (ToAcknowledge false true) no_notes (noted (data_note (rested skipped) 0 second_piece) (noted (ToAcknowledge false true) no_notes)) (ForwardTsn passes) (Data second_piece ∷ []) Taken
     (forward_acts Plain (end_now p5 B) tags_b Established 0 passes (bound_none p5.b.receiver refl) refl refl refl refl)
     (Next (rested skipped) handed_on (rested handed_on) (data_note (rested skipped) 0 second_piece) (noted (ToAcknowledge false true) no_notes) (noted (data_note (rested skipped) 0 second_piece) (noted (ToAcknowledge false true) no_notes)) (Data second_piece) [] Taken
-    (data_acts Plain (rested skipped) tags_b Established 0 second_piece (bound_none (rested skipped).receiver refl) refl refl (omega arith) refl)
+    (data_acts Plain (rested skipped) tags_b Established 0 second_piece (bound_none (rested skipped).receiver refl) refl refl (omega arith) refl refl)
     (NoneLeft (rested handed_on) (noted (data_note (rested skipped) 0 second_piece) (noted (ToAcknowledge false true) no_notes))))) false (λ on. absurd (cc)) refl))
 
 abbrev message : Handed

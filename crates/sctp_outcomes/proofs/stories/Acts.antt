@@ -1,11 +1,11 @@
 -- What data, a FORWARD, a SACK and the chunks of closing do to an open endpoint, computed.
-use Rattle.std.proofs.Common.{◌≡◌, ℕ, ◌<◌, ◌≤◌, ◌==◌, Bool, true, false, length, arith, subst}
+use Rattle.std.proofs.Common.{◌≡◌, ℕ, ◌<◌, ◌≤◌, ◌==◌, Bool, true, false, length, arith, subst, ap, ◌&&◌}
 use Rattle.std.proofs.lemmas.Bool.{cond_both, eqb-true}
 use Rattle.sctp_model.specs.numbers.Lists.{at}
 use Rattle.sctp_model.specs.wire.Chunk.{PieceMeaning, ForwardMeaning}
 use Rattle.sctp_model.specs.messages.Format.{Format}
 use Rattle.sctp_model.specs.receiver.ReceiverView.{ReceiverView}
-use Rattle.sctp_model.specs.receiver.PieceTaken.{answer_to}
+use Rattle.sctp_model.specs.receiver.PieceTaken.{answer_to, is_misnumbered}
 use Rattle.sctp_model.specs.receiver.ForwardTaken.{ForwardAnswer, Moved, ForwardTaken, forward_answer}
 use Rattle.sctp_model.specs.end.EndView.{Tags, Stage, Open, EndView, format_of}
 use Rattle.sctp_model.specs.end.Closing.{takes_data}
@@ -39,11 +39,12 @@ abbrev pub data_note : EndView → (bound : ℕ) → PieceMeaning → Note
 data_note e bound p = ToAcknowledge true (asks_at_once p (answer_to (format_of e) e.receiver (cumulative e.receiver bound) p))
 
 pub data_acts : (f : Format) (e : EndView) (t : Tags) (g : Stage) (bound : ℕ) (p : PieceMeaning) → IsBound e.receiver bound → e.phase ≡ Open t g → takes_data g ≡ true →
-    0 < length p.bytes → same_format f (format_of e) ≡ true → PieceActs f e p (GoesOn (data_note e bound p) (after_data e bound p))
-data_acts f e t g bound p within is hears some same =
+    0 < length p.bytes → same_format f (format_of e) ≡ true → e.configuration.strict ≡ false → PieceActs f e p (GoesOn (data_note e bound p) (after_data e bound p))
+data_acts f e t g bound p within is hears some same lenient =
     let c = cumulative e.receiver bound in
-    PieceComes t g (answer_to (format_of e) e.receiver c p) (piece_step (format_of e) e.receiver c p) is hears some same
-    (piece_steps (format_of e) e.receiver c p (cumulative_is e.receiver bound within))
+    let k = piece_steps (format_of e) e.receiver c p (cumulative_is e.receiver bound within) in
+    PieceComes t g (answer_to (format_of e) e.receiver c p) (piece_step (format_of e) e.receiver c p) is hears some same k
+    (ap (λ (b : Bool). b && is_misnumbered (format_of e) e.receiver k.c p) lenient)
 
 -- the endpoint after a FORWARD that moves it
 abbrev pub after_skip : EndView → (bound : ℕ) → ForwardMeaning → EndView

@@ -66,7 +66,7 @@ step_12 : Step w11 (Deliver A 3) (Some Acted) w12
 unfolding u16_bytes u32_bytes u16_at u32_at starts_typed typed_of
 step_12 = PacketComes (Deliver A 3) B (Some packet_3) (acknowledges Established (rested e12)) Taken (FromBag A 3 packet_3 refl) (ReadAs packet_3 (acknowledges Established (rested e12)) Taken (heard_unpaced (end_now w11 B) w11.draw packet_3 (rested e12) (noted (data_note (end_now w11 B) 0 piece) no_notes) Taken refl refl refl
     (Next (end_now w11 B) e12 (rested e12) (data_note (end_now w11 B) 0 piece) no_notes (noted (data_note (end_now w11 B) 0 piece) no_notes) (IData piece) [] Taken
-    (data_acts Interleaved (end_now w11 B) tags_b Established 0 piece (bound_none w11.b.receiver refl) refl refl (omega arith) refl)
+    (data_acts Interleaved (end_now w11 B) tags_b Established 0 piece (bound_none w11.b.receiver refl) refl refl (omega arith) refl refl)
     (NoneLeft (rested e12) (noted (data_note (end_now w11 B) 0 piece) no_notes))) false (λ on. absurd (cc)) refl))
 
 -- who takes it

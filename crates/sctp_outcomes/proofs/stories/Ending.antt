@@ -53,7 +53,7 @@ q3 = came q2 B (acknowledges Established (rested kept))
 comes_3 : Step q2 (Deliver A 1) (Some Acted) q3
 comes_3 = PacketComes (Deliver A 1) B (Some packet_1) (acknowledges Established (rested kept)) Taken (FromBag A 1 packet_1 refl) (ReadAs packet_1 (acknowledges Established (rested kept)) Taken (heard_unpaced (end_now q2 B) q2.draw packet_1 (rested kept) (noted (data_note (end_now q2 B) 0 first_piece) no_notes) Taken refl refl refl
     (Next (end_now q2 B) kept (rested kept) (data_note (end_now q2 B) 0 first_piece) no_notes (noted (data_note (end_now q2 B) 0 first_piece) no_notes) (IData first_piece) [] Taken
-    (data_acts Interleaved (end_now q2 B) tags_b Established 0 first_piece (bound_none q2.b.receiver refl) refl refl (omega arith) refl)
+    (data_acts Interleaved (end_now q2 B) tags_b Established 0 first_piece (bound_none q2.b.receiver refl) refl refl (omega arith) refl refl)
     (NoneLeft (rested kept) (noted (data_note (end_now q2 B) 0 first_piece) no_notes))) false (λ on. absurd (cc)) refl))
 
 -- A's user abandons the message, which takes index 2 for its end mark

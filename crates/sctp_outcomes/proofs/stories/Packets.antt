@@ -2,12 +2,13 @@
 use Rattle.std.proofs.Common.{◌≡◌, ℕ, Bool, true, false, List, [], ◌∷◌, ◌++◌, Option, Some, None, refl, if◌then◌else◌, sym, subst}
 use Rattle.sctp_model.specs.numbers.Serial.{tsn}
 use Rattle.sctp_model.specs.receiver.ResetTaken.{last_finished}
-use Rattle.sctp_model.specs.wire.Chunk.{ChunkMeaning, Sack, HeartbeatAck, Shutdown, ShutdownAck, Error, CookieEcho, CookieAck}
+use Rattle.sctp_model.specs.wire.Chunk.{ChunkMeaning, Sack, Heartbeat, HeartbeatAck, Shutdown, ShutdownAck, Error, CookieEcho, CookieAck}
 use Rattle.sctp_model.specs.sender.SentChunks.{forward_chunk_of}
 use Rattle.sctp_model.specs.receiver.SackMade.{sack_of}
 use Rattle.sctp_model.specs.end.EndView.{Tags, Stage, Open, EndView, format_of}
 use Rattle.sctp_model.specs.end.Reports.{written}
-use Rattle.sctp_model.specs.end.Building.{Slot, EchoSlot, CookieAckSlot, HeartbeatSlot, ErrorSlot, SackSlot, ForwardSlot, ShutdownSlot, ShutdownAckSlot, open_slots, has_some, is_due, Wants, AckCookie, AckHeartbeat, ReportCauses, Acknowledge, PassOn, SayShutdown, AnswerShutdown, has_room, Puts, NoMore, NotDue, Put, IsFull, fragments, sent, Builds, EndsFull, Fills, once_built, AnswerSlot, RequestSlot, AnswerReset, AskReset}
+use Rattle.sctp_model.specs.end.Beating.{beat_said}
+use Rattle.sctp_model.specs.end.Building.{Slot, EchoSlot, CookieAckSlot, HeartbeatSlot, BeatSlot, ErrorSlot, SackSlot, ForwardSlot, ShutdownSlot, ShutdownAckSlot, open_slots, has_some, is_due, Wants, AckCookie, AckHeartbeat, Beat, ReportCauses, Acknowledge, PassOn, SayShutdown, AnswerShutdown, has_room, Puts, NoMore, NotDue, Put, IsFull, fragments, sent, Builds, EndsFull, Fills, once_built, AnswerSlot, RequestSlot, AnswerReset, AskReset, most_blocks}
 use Rattle.sctp_outcomes.specs.receiver.Runs.{all_runs}
 use Rattle.sctp_outcomes.specs.receiver.Steps.{IsBound, cumulative}
 use Rattle.sctp_outcomes.proofs.receiver.RunsLemmas.{runs_are}
@@ -38,8 +39,9 @@ abbrev chunk_at : Slot → EndView → (bound : ℕ) → ChunkMeaning
 chunk_at EchoSlot e bound = CookieEcho []
 chunk_at CookieAckSlot e bound = CookieAck
 chunk_at HeartbeatSlot e bound = HeartbeatAck (info_of e.due.heartbeat)
+chunk_at BeatSlot e bound = Heartbeat (beat_said e)
 chunk_at ErrorSlot e bound = Error (written e.due.causes)
-chunk_at SackSlot e bound = Sack (sack_of e.receiver (cumulative e.receiver bound) (all_runs e.receiver (cumulative e.receiver bound) bound))
+chunk_at SackSlot e bound = Sack (sack_of (most_blocks e.configuration) e.receiver (cumulative e.receiver bound) (all_runs e.receiver (cumulative e.receiver bound) bound))
 chunk_at ForwardSlot e bound = forward_chunk_of (format_of e) e.configuration.limit e.sender
 chunk_at AnswerSlot e bound = reconfig_chunk e.receiver.resets.answers
 chunk_at RequestSlot e bound = request_chunk e e.sender.resets.pending
@@ -59,10 +61,11 @@ wanted : (s : Slot) (e : EndView) (bound : ℕ) → IsBound e.receiver bound →
 wanted EchoSlot e bound within on due = absurd (cc)
 wanted CookieAckSlot e bound within on due = AckCookie
 wanted HeartbeatSlot e bound within on due = AckHeartbeat (info_of e.due.heartbeat) (waits_with e.due.heartbeat due)
+wanted BeatSlot e bound within on due = Beat
 wanted ErrorSlot e bound within on due = ReportCauses
 wanted SackSlot e bound within on due =
     let c = cumulative_is e.receiver bound within in
-    Acknowledge (sack_of e.receiver (cumulative e.receiver bound) (all_runs e.receiver (cumulative e.receiver bound) bound)) (record {
+    Acknowledge (sack_of (most_blocks e.configuration) e.receiver (cumulative e.receiver bound) (all_runs e.receiver (cumulative e.receiver bound) bound)) (record {
       c = cumulative e.receiver bound;
       runs = all_runs e.receiver (cumulative e.receiver bound) bound;
       cumulative = c;
@@ -84,6 +87,7 @@ bound_after : (s : Slot) (e : EndView) (bound : ℕ) → IsBound e.receiver boun
 bound_after EchoSlot e bound within = within
 bound_after CookieAckSlot e bound within = within
 bound_after HeartbeatSlot e bound within = within
+bound_after BeatSlot e bound within = within
 bound_after ErrorSlot e bound within = within
 bound_after SackSlot e bound within = within
 bound_after ForwardSlot e bound within = within
@@ -147,7 +151,7 @@ packet_built e bound = with_fragments (built_over open_slots bound (asking e) []
 pub builds_are : (t : Tags) (g : Stage) (e : EndView) (bound : ℕ) → e.phase ≡ Open t g → IsBound e.receiver bound →
     Builds e (packet_built e bound).chunks (packet_built e bound).after
 builds_are t g e bound is within = go (built_over open_slots bound (asking e) [])
-    (puts_are open_slots bound (asking e) [] (refl, (refl, (refl, (refl, (refl, (refl, (refl, (refl, (refl, tt)))))))))
+    (puts_are open_slots bound (asking e) [] (refl, (refl, (refl, (refl, (refl, (refl, (refl, (refl, (refl, (refl, tt))))))))))
     (subst (λ (r : ReceiverView). IsBound r bound) (sym (asking_same e).receiver.1) within))
   where
     by : (zs : List ChunkMeaning) (full : Bool) (x : EndView) → Puts open_slots (asking e) [] zs full x →

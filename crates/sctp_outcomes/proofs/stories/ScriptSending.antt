@@ -55,7 +55,7 @@ step_16 : Step s15 (Deliver A 3) (Some Acted) s16
 unfolding u16_bytes u32_bytes u16_at u32_at starts_typed typed_of
 step_16 = PacketComes (Deliver A 3) B (Some packet_3) (acknowledges Established (rested e16)) Taken (FromBag A 3 packet_3 refl) (ReadAs packet_3 (acknowledges Established (rested e16)) Taken (heard_unpaced (end_now s15 B) s15.draw packet_3 (rested e16) (noted (data_note (end_now s15 B) 0 piece) no_notes) Taken refl refl refl
     (Next (end_now s15 B) e16 (rested e16) (data_note (end_now s15 B) 0 piece) no_notes (noted (data_note (end_now s15 B) 0 piece) no_notes) (Data piece) [] Taken
-    (data_acts Plain (end_now s15 B) tags_b Established 0 piece (bound_none s15.b.receiver refl) refl refl (omega arith) refl)
+    (data_acts Plain (end_now s15 B) tags_b Established 0 piece (bound_none s15.b.receiver refl) refl refl (omega arith) refl refl)
     (NoneLeft (rested e16) (noted (data_note (end_now s15 B) 0 piece) no_notes))) false (λ on. absurd (cc)) refl))
 
 one_recorded : (i : ℕ) → s16.b.receiver.seen i ≡ true → i ≤ 1
@@ -72,7 +72,7 @@ step_17 : Step s16 (Deliver A 3) (Some Acted) s17
 unfolding u16_bytes u32_bytes u16_at u32_at starts_typed typed_of
 step_17 = PacketComes (Deliver A 3) B (Some packet_3) (acknowledges Established (rested e17)) Taken (FromBag A 3 packet_3 refl) (ReadAs packet_3 (acknowledges Established (rested e17)) Taken (heard_unpaced (end_now s16 B) s16.draw packet_3 (rested e17) (noted (data_note (end_now s16 B) 1 piece) no_notes) Taken refl refl refl
     (Next (end_now s16 B) e17 (rested e17) (data_note (end_now s16 B) 1 piece) no_notes (noted (data_note (end_now s16 B) 1 piece) no_notes) (Data piece) [] Taken
-    (data_acts Plain (end_now s16 B) tags_b Established 1 piece one_recorded refl refl (omega arith) refl)
+    (data_acts Plain (end_now s16 B) tags_b Established 1 piece one_recorded refl refl (omega arith) refl refl)
     (NoneLeft (rested e17) (noted (data_note (end_now s16 B) 1 piece) no_notes))) false (λ on. absurd (cc)) refl))
 
 -- the SACK names the duplicate; the two bytes wait, and count against the buffer

@@ -1,5 +1,5 @@
 -- Two endpoints that are opened without packets, set up for small packets: one full fragment in each.
-use Rattle.std.proofs.Common.{ℕ, ◌≡◌, ◌<◌, ◌^◌, Bool, true, false, Some, refl, arith}
+use Rattle.std.proofs.Common.{ℕ, ◌≡◌, ◌<◌, ◌^◌, Bool, true, false, Some, refl, arith, None}
 use Rattle.sctp_model.specs.world.Calls.{Call}
 use Rattle.sctp_model.specs.end.EndView.{Draw, Tags, IsDraw}
 use Rattle.sctp_model.specs.end.Configured.{IsConfiguration}
@@ -9,7 +9,7 @@ use Rattle.sctp_model.specs.world.World.{Side, A, B, are_alike, World, with_end,
 use Rattle.sctp_model.specs.world.Events.{OpenBoth, Done}
 use Rattle.sctp_model.specs.world.Steps.{accepted, named_at, Step, OpensBoth}
 use Rattle.sctp_safety.proofs.machine.OpeningWorlds.{open_seal}
-use Rattle.sctp_model.specs.numbers.Limits.{LEAST_WAIT}
+use Rattle.sctp_model.specs.numbers.Limits.{LEAST_WAIT, LONGEST_MESSAGE, FIRST_WAIT, LONGEST_WAIT, REPEATS, OPENING_REPEATS}
 
 -- ---- two endpoints without packets
 
@@ -32,6 +32,22 @@ small interleave = record {
     least_wait = LEAST_WAIT;
     congestion_control = false;
     reset = false;
+    first_wait = FIRST_WAIT;
+    longest_wait = LONGEST_WAIT;
+    repeats = REPEATS;
+    opening_repeats = OPENING_REPEATS;
+    heartbeat = None;
+    progress = false;
+    guard = false;
+    updates = false;
+    reserve = 0;
+    all_blocks = false;
+    growth = 1;
+    cubic = false;
+    longest_message = LONGEST_MESSAGE;
+    queue_bytes = None;
+    strict = false;
+    zero_checksum = false;
   };
   of_b = record {
     own_port = 0;
@@ -49,6 +65,22 @@ small interleave = record {
     least_wait = LEAST_WAIT;
     congestion_control = false;
     reset = false;
+    first_wait = FIRST_WAIT;
+    longest_wait = LONGEST_WAIT;
+    repeats = REPEATS;
+    opening_repeats = OPENING_REPEATS;
+    heartbeat = None;
+    progress = false;
+    guard = false;
+    updates = false;
+    reserve = 0;
+    all_blocks = false;
+    growth = 1;
+    cubic = false;
+    longest_message = LONGEST_MESSAGE;
+    queue_bytes = None;
+    strict = false;
+    zero_checksum = false;
   };
   a_port = 5000;
   b_port = 5001;

@@ -67,7 +67,7 @@ comes_5 = PacketComes (Deliver A 1) B (Some packet) (acknowledges Established (r
     (ReadAs packet (acknowledges Established (rested handed_on)) Taken
     (heard_unpaced (end_now p4 B) p4.draw packet (rested handed_on) (noted (data_note (end_now p4 B) 0 piece) no_notes) Taken refl refl refl
     (Next (end_now p4 B) handed_on (rested handed_on) (data_note (end_now p4 B) 0 piece) no_notes (noted (data_note (end_now p4 B) 0 piece) no_notes) (Data piece) [] Taken
-    (data_acts Plain (end_now p4 B) tags_b Established 0 piece (bound_none p4.b.receiver refl) refl refl (omega arith) refl)
+    (data_acts Plain (end_now p4 B) tags_b Established 0 piece (bound_none p4.b.receiver refl) refl refl (omega arith) refl refl)
     (NoneLeft (rested handed_on) (noted (data_note (end_now p4 B) 0 piece) no_notes))) false (λ on. absurd (cc)) refl))
 
 abbrev p6 : World

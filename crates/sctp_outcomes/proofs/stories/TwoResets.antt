@@ -29,10 +29,10 @@ use Rattle.sctp_outcomes.proofs.stories.Ours.{premises_of_ours}
 
 -- ---- two endpoints that agree on resets
 
-abbrev resetting : Setup
+abbrev pub resetting : Setup
 resetting = record (small false) { of_a = record (small false).of_a { reset = true }; of_b = record (small false).of_b { reset = true } }
 
-configured : (x : Side) → IsConfiguration (configuration_of resetting x)
+pub configured : (x : Side) → IsConfiguration (configuration_of resetting x)
 configured A = record {
   own_port = (omega arith, omega arith);
   peer_port = (omega arith, omega arith);
@@ -55,14 +55,14 @@ configured B = record {
 drawn : (n t : ℕ) → 0 < n → n < 2 ^ 32 → t < 2 ^ 32 → IsDraw (record { tag = n; tsn = t })
 drawn n t some tag first = record { some = some; tag = tag; tsn = first }
 
-abbrev p0 : World
+abbrev pub p0 : World
 p0 = record (start resetting) {
   a = opened (configuration_of resetting A) of_a of_b;
   b = opened (configuration_of resetting B) of_b of_a;
   openable = false;
 }
 
-opens : Step (start resetting) (OpenBoth of_a of_b) (Some Done) p0
+pub opens : Step (start resetting) (OpenBoth of_a of_b) (Some Done) p0
 opens = OpensBoth of_a of_b refl refl (drawn 7 100 (omega arith) (omega arith) (omega arith)) (drawn 9 200 (omega arith) (omega arith) (omega arith))
 
 -- ---- what each call leaves

@@ -90,12 +90,12 @@ numbered_on k [] ys first second = subst (λ (n : ℕ). AreNumbered n ys) (let s
 numbered_on k (x ∷ xs) ys (here, first) second =
     (here, numbered_on (suc k) xs ys first (subst (λ (n : ℕ). AreNumbered n ys) (let same : k + suc (length xs) ≡ suc k + length xs = omega arith in same) second))
 
-numbered_upto : (k : ℕ) (xs : List Sent) (y : Sent) → AreNumbered k xs → Has xs y → y.ticket ≤ k + length xs
+pub numbered_upto : (k : ℕ) (xs : List Sent) (y : Sent) → AreNumbered k xs → Has xs y → y.ticket ≤ k + length xs
 numbered_upto k [] y numbered has = absurd has
 numbered_upto k (x ∷ xs) y (here, more) (inl same) = let t = ap (λ (z : Sent). z.ticket) same in omega (arith, here, t)
 numbered_upto k (x ∷ xs) y (here, more) (inr has) = let low = numbered_upto (suc k) xs y more has in omega (arith, low)
 
-has_either : {A : Type 0} (xs ys : List A) (x : A) → Has (xs ++ ys) x → Has xs x ⊎ Has ys x
+pub has_either : {A : Type 0} (xs ys : List A) (x : A) → Has (xs ++ ys) x → Has xs x ⊎ Has ys x
 has_either xs ys x has = has_cases xs ys x has
 
 -- ---- what is kept on the way
@@ -135,7 +135,7 @@ module _ (s : Setup) (drawn : List ℕ) (within : (x : Side) → IsConfiguration
   shut_map : (R Q : ℕ → Type 0) (ss : List Sent) → ((c : ℕ) → R c → Q c) → IsShut R ss → IsShut Q ss
   shut_map R Q ss up k = record { count = k.count; reset = up k.count k.reset; upto = k.upto; given = k.given }
 
-  marked_map : (R Q : ℕ → Type 0) (c : ℕ) (w : World) → ((c : ℕ) → R c → Q c) → IsMarked R c w → IsMarked Q c w
+  pub marked_map : (R Q : ℕ → Type 0) (c : ℕ) (w : World) → ((c : ℕ) → R c → Q c) → IsMarked R c w → IsMarked Q c w
   marked_map R Q c w up k = record {
     world = k.world;
     met = k.met;
@@ -148,6 +148,10 @@ module _ (s : Setup) (drawn : List ℕ) (within : (x : Side) → IsConfiguration
     upto = k.upto;
     given = k.given;
   }
+
+  pub map_counts : (R Q : ℕ → Type 0) (c : ℕ) (w : World) (up : (c : ℕ) → R c → Q c) (k : IsMarked R c w) → (marked_map R Q c w up k).count ≡ k.count
+  unfolding marked_map
+  map_counts R Q c w up k = refl
 
   inv_map : (R Q : ℕ → Type 0) (ss : List Sent) (w : World) → ((c : ℕ) → R c → Q c) → Inv R ss w → Inv Q ss w
   inv_map R Q ss w up k = record {
@@ -162,10 +166,10 @@ module _ (s : Setup) (drawn : List ℕ) (within : (x : Side) → IsConfiguration
   }
 
   -- one event more
-  abbrev With : (ℕ → Type 0) → List Sent → Event → Option Outcome → ℕ → Type 0
+  abbrev pub With : (ℕ → Type 0) → List Sent → Event → Option Outcome → ℕ → Type 0
   With R ss e o c = R c ⊎ ((is_reset x n e o ≡ true) × (c ≡ length ss))
 
-  own_reset : (e : Event) (o : Option Outcome) → e ≡ Reset x n → o ≡ Some Done → is_reset x n e o ≡ true
+  pub own_reset : (e : Event) (o : Option Outcome) → e ≡ Reset x n → o ≡ Some Done → is_reset x n e o ≡ true
   own_reset e o is done = subst (λ (y : Event). is_reset x n y o ≡ true) (sym is) (subst (λ (y : Option Outcome). is_reset x n (Reset x n) y ≡ true) (sym done) (same x))
     where
       number : (n == n) ≡ true
@@ -175,11 +179,11 @@ module _ (s : Setup) (drawn : List ℕ) (within : (x : Side) → IsConfiguration
       same A = number
       same B = number
 
-  no_sends : (e : Event) (o : Option Outcome) → e ≡ Reset x n → sent_by x e o ≡ []
+  pub no_sends : (e : Event) (o : Option Outcome) → e ≡ Reset x n → sent_by x e o ≡ []
   no_sends e o is = subst (λ (y : Event). sent_by x y o ≡ []) (sym is) refl
 
   module _ (R : ℕ → Type 0) (ss : List Sent) (w : World) (i : Inv R ss w) (e : Event) (o : Option Outcome) (v : World) (dates : AreKept d w e v) (fine : IsFine s drawn e) (step : Step w e o v) where
-    abbrev new : List Sent
+    abbrev pub new : List Sent
     new = sent_by x e o
 
     sent_one : sent x (e ∷ []) (o ∷ []) ≡ new
@@ -191,9 +195,11 @@ module _ (s : Setup) (drawn : List ℕ) (within : (x : Side) → IsConfiguration
     resets : StepResets d x n w e o v
     resets = step_resets s drawn within d w v e o dates fine i.steady step x n
 
+    pub new_numbered : AreNumbered (length ss) new
+    new_numbered = subst (λ (k : ℕ). AreNumbered k new) i.tickets (subst (λ (ys : List Sent). AreNumbered (end_of w x).sender.tickets ys) sent_one adds.numbered)
+
     numbered : AreNumbered 0 (ss ++ new)
-    numbered = numbered_on 0 ss new i.numbered
-        (subst (λ (k : ℕ). AreNumbered k new) (i.tickets ∙ (let same : length ss ≡ 0 + length ss = omega arith in same)) (subst (λ (ys : List Sent). AreNumbered (end_of w x).sender.tickets ys) sent_one adds.numbered))
+    numbered = numbered_on 0 ss new i.numbered (subst (λ (k : ℕ). AreNumbered k new) (let same : length ss ≡ 0 + length ss = omega arith in same) new_numbered)
 
     calls_append : (xs ys : List Sent) → calls_of (xs ++ ys) ≡ calls_of xs ++ calls_of ys
     calls_append [] ys = refl
@@ -211,7 +217,7 @@ module _ (s : Setup) (drawn : List ℕ) (within : (x : Side) → IsConfiguration
         omega (arith, a, b, c, k)
 
     -- messages that are accepted on a stream that takes none
-    none_new : is_sending ((end_of w x).sender.resets.sending n) ≡ false → (y : Sent) → Has new y → y.call.lane.stream ≡ n → ⊥
+    pub none_new : is_sending ((end_of w x).sender.resets.sending n) ≡ false → (y : Sent) → Has new y → y.call.lane.stream ≡ n → ⊥
     none_new off y has on =
         let sends = subst (λ (k : ℕ). is_sending ((end_of w x).sender.resets.sending k) ≡ true) on (sent_sends x w e o v step y has) in
         cc
@@ -247,42 +253,52 @@ module _ (s : Setup) (drawn : List ℕ) (within : (x : Side) → IsConfiguration
         sent_of_call ss m.ticket (handed_in l m).call i.numbered
         (subst (λ (cs : List Call). item_at cs m.ticket ≡ Some (handed_in l m).call) i.calls (message_called s drawn within d w x l k m met there))
 
+    -- what was marked stays so, with its count
+    pub marked_on : (c : ℕ) (k : IsMarked R c w) → (m : IsMarked (With R ss e o) c v) × (m.count ≡ k.count)
+    marked_on c k =
+        let on = goes k.now in (
+          record {
+            world = k.world;
+            met = k.met;
+            asks = k.asks;
+            length_is = k.length_is;
+            between = ongoing_on (end_of k.world x).sender (end_of k.world (other x)).receiver (end_of w x).sender (end_of w (other x)).receiver (end_of v x).sender (end_of v (other x)).receiver k.between on.0;
+            now = on.1;
+            count = k.count;
+            reset = inl k.reset;
+            upto = k.upto;
+            given = k.given;
+          },
+          refl,
+        )
+
+    -- a request that waits is performed now
+    pub marked_now : (c : ℕ) → IsMetWorld d w → Asks (end_of w x).sender n → c ≡ length (handed (end_of w (other x)).receiver n) → (k : IsShut R ss) → (m : IsMarked (With R ss e o) c v) × (m.count ≡ k.count)
+    marked_now c met asks length_is k =
+        let on = goes met in (
+          record {
+            world = w;
+            met = met;
+            asks = asks;
+            length_is = length_is;
+            between = on.0;
+            now = on.1;
+            count = k.count;
+            reset = inl k.reset;
+            upto = λ l j m stream there. k.upto (handed_in l m) (was_sent met l j m there) stream;
+            given = let g = k.given in let t = i.tickets in omega (arith, g, t);
+          },
+          refl,
+        )
+
     told : (c : ℕ) → (end_of v (other x)).receiver.resets.told n ≡ Some c → IsMarked (With R ss e o) c v
     told c is = go (resets.told c is)
       where
         go : ((end_of w (other x)).receiver.resets.told n ≡ Some c) ⊎ (IsMetWorld d w × (Asks (end_of w x).sender n × (c ≡ length (handed (end_of w (other x)).receiver n)))) → IsMarked (With R ss e o) c v
-        go (inl before) =
-            let k = i.told c before in
-            let on = goes k.now in
-            record {
-              world = k.world;
-              met = k.met;
-              asks = k.asks;
-              length_is = k.length_is;
-              between = ongoing_on (end_of k.world x).sender (end_of k.world (other x)).receiver (end_of w x).sender (end_of w (other x)).receiver (end_of v x).sender (end_of v (other x)).receiver k.between on.0;
-              now = on.1;
-              count = k.count;
-              reset = inl k.reset;
-              upto = k.upto;
-              given = k.given;
-            }
-        go (inr (met, (asks, length_is))) =
-            let k = i.shut (asks_shut s drawn within d w x n met asks) in
-            let on = goes met in
-            record {
-              world = w;
-              met = met;
-              asks = asks;
-              length_is = length_is;
-              between = on.0;
-              now = on.1;
-              count = k.count;
-              reset = inl k.reset;
-              upto = λ l j m stream there. k.upto (handed_in l m) (was_sent met l j m there) stream;
-              given = let g = k.given in let t = i.tickets in omega (arith, g, t);
-            }
+        go (inl before) = (marked_on c (i.told c before)).0
+        go (inr (met, (asks, length_is))) = (marked_now c met asks length_is (i.shut (asks_shut s drawn within d w x n met asks))).0
 
-    inv_step : Inv (With R ss e o) (ss ++ new) v
+    pub inv_step : Inv (With R ss e o) (ss ++ new) v
     inv_step = record {
       steady = steady_step s drawn within d w v e o dates fine i.steady step;
       fresh = (step_onward w e o v i.fresh step).fresh;
@@ -323,7 +339,7 @@ module _ (s : Setup) (drawn : List ℕ) (within : (x : Side) → IsConfiguration
   abbrev pub Under : World → Type 0
   Under w = (c : ℕ) → (end_of w (other x)).receiver.resets.told n ≡ Some c → length ((end_of w (other x)).receiver.taken n) ≤ c
 
-  under_step : (w v : World) (e : Event) (o : Option Outcome) → AreKept d w e v → IsFine s drawn e → IsSteady s drawn d w → IsFresh w → AreSound w → Step w e o v →
+  pub under_step : (w v : World) (e : Event) (o : Option Outcome) → AreKept d w e v → IsFine s drawn e → IsSteady s drawn d w → IsFresh w → AreSound w → Step w e o v →
       (taken_by (other x) n e o ≡ []) ⊎ ((end_of v (other x)).receiver.resets.told n ≡ None) → Under w → Under v
   under_step w v e o dates fine steady fresh sound step (inr none) under c is = absurd (cc (none, is))
   under_step w v e o dates fine steady fresh sound step (inl nothing) under c is = go ((step_resets s drawn within d w v e o dates fine steady step x n).told c is)

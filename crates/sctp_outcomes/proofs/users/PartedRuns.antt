@@ -116,7 +116,7 @@ brings_none w e z p (FromBag _ _ _ _) y is = cc
 brings_none w e z p (FromStranger _ _ _) y is = cc
 brings_none w e z p (NoPacket _) y is = cc
 
-step_tells : (w : World) (e : Event) (o : Option Outcome) (v : World) → Step w e o v → (y : Side) (n k : ℕ) → e ≡ WasReset y → o ≡ Some (ResetThere n k) →
+pub step_tells : (w : World) (e : Event) (o : Option Outcome) (v : World) → Step w e o v → (y : Side) (n k : ℕ) → e ≡ WasReset y → o ≡ Some (ResetThere n k) →
     (reset_there (end_of w y) ≡ Some n) × (k ≡ old_waiting (end_of w y).receiver n)
 step_tells w e o v (OpensBoth _ _ _ _ _ _) y n k is told = absurd (cc)
 step_tells w e o v (OpenRefused _ _ _) y n k is told = absurd (cc)
@@ -149,13 +149,13 @@ step_tells w e o v (ShutsDown z) y n k is told = absurd (cc)
 step_tells w e o v (AbortsIt z why) y n k is told = absurd (cc)
 step_tells w e o v (NoMemory _ other_event) y n k is told = absurd (cc)
 
-some_told : (o : Option ℕ) → is_some o ≡ true → (c : ℕ) × (o ≡ Some c)
+pub some_told : (o : Option ℕ) → is_some o ≡ true → (c : ℕ) × (o ≡ Some c)
 some_told (Some c) on = (c, refl)
 some_told None on = absurd (cc)
 
 -- ---- the whole run
 
-start_untold : (s : Setup) (x : Side) (n c : ℕ) → (end_of (start s) x).receiver.resets.told n ≡ Some c → ⊥
+pub start_untold : (s : Setup) (x : Side) (n c : ℕ) → (end_of (start s) x).receiver.resets.told n ≡ Some c → ⊥
 start_untold s A n c is = cc
 start_untold s B n c is = cc
 
@@ -175,19 +175,19 @@ start_named : (s : Setup) (x : Side) (t : ℕ) → (log_of (start s) x).named t 
 start_named s A t on = cc
 start_named s B t on = cc
 
-start_taken : (s : Setup) (x : Side) (n : ℕ) → (end_of (start s) x).receiver.taken n ≡ []
+pub start_taken : (s : Setup) (x : Side) (n : ℕ) → (end_of (start s) x).receiver.taken n ≡ []
 start_taken s A n = refl
 start_taken s B n = refl
 
 module _ (s : Setup) (es : List Event) (os : List (Option Outcome)) (vs : List World) (configured : (x : Side) → IsConfiguration (configuration_of s x))
     (passes : PassesThrough (start s) es os vs) (premises : FreshAndUnforged s.sealing es) (aged : Aged (start s) es vs) (x : Side) (n : ℕ) where
-  abbrev w : World
+  abbrev pub w : World
   w = last_of (start s) vs
 
-  abbrev drawn : List ℕ
+  abbrev pub drawn : List ℕ
   drawn = drawn_in es
 
-  abbrev d : Dates
+  abbrev pub d : Dates
   d = dates_of (start s) vs
 
   in_time : IsReachedInTime s es w
@@ -210,7 +210,7 @@ module _ (s : Setup) (es : List Event) (os : List (Option Outcome)) (vs : List W
       of_both A both = both.0
       of_both B both = both.1
 
-  known : IsKnown w x n (sent x es os) (named x es os) (time x es os)
+  pub known : IsKnown w x n (sent x es os) (named x es os) (time x es os)
   known = record {
     safe = two_ends_are_safe s es w in_time x;
     orderly = (both_senders_are_in_order s es w reachable x).plan;
@@ -223,10 +223,10 @@ module _ (s : Setup) (es : List Event) (os : List (Option Outcome)) (vs : List W
     closed = λ y over. (arrives x y over, drains x y over);
   }
 
-  abbrev all : Built w x n (sent x es os) (named x es os) (time x es os) known (handed (end_of w (other x)).receiver n)
+  abbrev pub all : Built w x n (sent x es os) (named x es os) (time x es os) known (handed (end_of w (other x)).receiver n)
   all = built w x n (sent x es os) (named x es os) (time x es os) known
 
-  matched : AreMatched (exchange x n es os w) all.matches
+  pub matched : AreMatched (exchange x n es os w) all.matches
   matched = record {
     all = all.all ∙ ap (λ (hs : List Handed). hs ++ (end_of w (other x)).receiver.waiting n)
         ((adds (other x)).noted.taken ∙ ap (λ (hs : List Handed). hs ++ taken (other x) n es os) (start_taken s (other x) n));
@@ -235,10 +235,10 @@ module _ (s : Setup) (es : List Event) (os : List (Option Outcome)) (vs : List W
     in_order = all.in_order;
   }
 
-  fine : (e : Event) → Has es e → IsFine s drawn e
+  pub fine : (e : Event) → Has es e → IsFine s drawn e
   fine = fine_by s es premises
 
-  kept : AllKept d (start s) es vs
+  pub kept : AllKept d (start s) es vs
   kept = kept_in_time s es os vs passes aged
 
   -- a match is of the message that its first chunk says
@@ -254,6 +254,46 @@ module _ (s : Setup) (es : List Event) (os : List (Option Outcome)) (vs : List W
       (subst (λ (i : ℕ). message_at (end_of w x).sender.plan (lane_for q.kind n) i ≡ Some q.sent.message) number q.sent.complete.0) in
       let same : q.sent.message ≡ y = cc (its, there) in
       sym (ap (λ (z : Sent). z.ticket) q.is) ∙ ap (λ (z : Message). z.ticket) same
+
+  -- ---- a place at which a request was performed
+
+  module _ (R : ℕ → Type 0) (c : ℕ) (mark : IsMarked s drawn configured d x n R c w) where
+    marked_hands : HandsLaterOnes (end_of w x).sender (end_of mark.world x).sender.tickets (end_of mark.world (other x)).receiver (end_of w (other x)).receiver n
+    marked_hands = parts_between s drawn configured d mark.world w x n mark.between mark.met mark.now mark.asks
+
+    pub marked_new : (m : Match) → Has (drop c all.matches) m → mark.count < m.sent.ticket
+    marked_new m has =
+        let behind = drop_behind c (handed (end_of mark.world (other x)).receiver n) marked_hands.more m.message (let a = mark.length_is in omega (arith, a))
+        (subst (λ (hs : List Handed). Has (drop c hs) m.message) (all.all ∙ marked_hands.behind) (drop_map c all.matches m has)) in
+        let k = marked_hands.each m.message behind in
+        let ticket = ticket_is m (all.each m (drop_has c all.matches m has)).0 k.number k.message k.named k.first in
+        let late = k.later in
+        let given = mark.given in
+        omega (arith, ticket, late, given)
+
+    pub marked_old : (m : Match) → Has (take c all.matches) m → m.sent.ticket ≤ mark.count
+    marked_old m has =
+        let front = take_front c (handed (end_of mark.world (other x)).receiver n) marked_hands.more m.message (let a = mark.length_is in omega (arith, a))
+        (subst (λ (hs : List Handed). Has (take c hs) m.message) (all.all ∙ marked_hands.behind) (take_map c all.matches m has)) in
+        let k = handed_named s drawn configured d mark.world x n m.message mark.met front in
+        let ticket = ticket_is m (all.each m (take_has c all.matches m has)).0 k.0 k.1 (mark.between.since.stays m.message.lane k.0 k.1 k.2)
+        (entries_last (end_of mark.world x).sender (end_of w x).sender mark.between.since m.message.first _ k.3) in
+        let low = mark.upto m.message.lane k.0 k.1 k.4 k.2 in
+        omega (arith, ticket, low)
+
+  -- ---- a reset that was reported
+
+  pub inv_start : Inv s drawn configured d x n (λ c. ⊥) [] (start s)
+  inv_start = record {
+    steady = steady_start s es d;
+    fresh = λ q. (refl, refl);
+    sound = start_sound s;
+    numbered = tt;
+    calls = start_calls s x;
+    tickets = start_tickets s x;
+    shut = λ off. absurd (start_sends s x n off);
+    told = λ c is. absurd (start_untold s (other x) n c is);
+  }
 
   module _ (t : IsTold x n es os) where
     abbrev h : Halves (start s) t.past (WasReset (other x) ∷ t.later) t.answers (Some (ResetThere n t.waiting) ∷ t.others) vs
@@ -276,18 +316,6 @@ module _ (s : Setup) (es : List Event) (os : List (Option Outcome)) (vs : List W
     last : last_of at_told h.second ≡ w
     last = sym (passing_goes_on (start s) t.past (WasReset (other x) ∷ t.later) t.answers (Some (ResetThere n t.waiting) ∷ t.others) h.first h.second h.passes h.goes_on).1
         ∙ ap (last_of (start s)) (sym h.all)
-
-    inv_start : Inv s drawn configured d x n (λ c. ⊥) [] (start s)
-    inv_start = record {
-      steady = steady_start s es d;
-      fresh = λ q. (refl, refl);
-      sound = start_sound s;
-      numbered = tt;
-      calls = start_calls s x;
-      tickets = start_tickets s x;
-      shut = λ off. absurd (start_sends s x n off);
-      told = λ c is. absurd (start_untold s (other x) n c is);
-    }
 
     inv : Inv s drawn configured d x n (Covers s drawn configured d x n (λ c. ⊥) [] t.past t.answers) (sent x t.past t.answers) at_told
     inv = inv_run s drawn configured d x n (λ c. ⊥) [] (start s) t.past t.answers h.first inv_start h.passes

@@ -13,12 +13,12 @@ use Rattle.sctp_model.specs.world.Safe.{IsSent, WasHanded, IsHeldWhole, IsGivenU
 use Rattle.sctp_model.specs.end.EndView.{Ended, Completed, Phase, Idle, Listening, Calling, Echoing, Open, Over, ended_of, format_of}
 use Rattle.sctp_model.specs.world.World.{Side, A, B, other, World, end_of, log_of, Setup, start, configuration_of}
 use Rattle.sctp_model.specs.world.Steps.{last_of, PassesThrough}
-use Rattle.sctp_model.specs.world.Premises.{IsAllArrived, IsReachedInTime, IsReachable, FreshAndUnforged}
+use Rattle.sctp_model.specs.world.Premises.{IsAllArrived, IsReachable, FreshAndUnforged}
 use Rattle.sctp_safety.specs.Told.{WasAcknowledged}
 use Rattle.sctp_safety.specs.Placed.{IsPlaced, IsQueued, IsNumbered, WasNamed, WasLate}
 use Rattle.sctp_safety.proofs.runs.Courses.{passing_is_a_run}
-use Rattle.sctp_safety.proofs.runs.Directions.{senders_known, known}
-use Rattle.sctp_safety.proofs.runs.Safety.{two_ends_are_safe, nothing_is_missing, nothing_waits, IsKept, kept_safe, kept_closed, kept_drained, kept_by_all}
+use Rattle.sctp_safety.proofs.runs.Directions.{known}
+use Rattle.sctp_safety.proofs.runs.Safety.{IsKept, kept_safe, kept_closed, kept_drained, kept_by_all}
 use Rattle.sctp_safety.proofs.sending.SenderCalls.{drained_is_told}
 use Rattle.sctp_safety.proofs.sending.ToldLemmas.{acknowledged_is_told}
 use Rattle.sctp_outcomes.specs.Users.{Sent, sent, named, taken, time, Exchange, WasSent, Match, IsDelivered, WasGivenUp, ByName, ByTime, ByLimit, IsHeld, IsFaithful, UsersTakeWhatWasSent, exchange, ShortRunsAreFaithful}
@@ -29,7 +29,7 @@ use Rattle.sctp_outcomes.proofs.users.Runs.{AreNumbered, Adds, run_adds, call_of
 use Rattle.sctp_outcomes.proofs.users.Matched.{lane_for, handed_in, a, r, u, IsTold, Right, exchanged, sent_is, is_match, kind_is, built, delivered}
 use Rattle.sctp_outcomes.proofs.users.Held.{held}
 use Rattle.sctp_model.proofs.sender.AnswerLaws.{abandoned_is_agreed}
-use Rattle.std.specs.Prelude.{unwrap_or, option_map, option_and_then}
+use Rattle.std.specs.Prelude.{unwrap_or, option_map, option_and_then, Option}
 use Rattle.sctp_model.specs.sender.Entries.{entry_message}
 use Rattle.sctp_safety.proofs.runs.Dating.{dates_of, AllKept, kept_in_time, kept_by_few}
 use Rattle.sctp_safety.proofs.runs.DatedBags.{Dates}

@@ -40,7 +40,7 @@ none_there : (r : ReceiverView) (n : ℕ) → is_some ((told_of r n).resets.told
 none_there r n = let same : (n == n) ≡ true = grind (arith, nat_tests) in rw same refl
 
 -- it was so before, and isn't so after
-abbrev IsReported : Side → ℕ → World → World → Type 0
+abbrev pub IsReported : Side → ℕ → World → World → Type 0
 IsReported y n w v = (is_some ((end_of w y).receiver.resets.told n) ≡ true) × (is_some ((end_of v y).receiver.resets.told n) ≡ false)
 
 -- no packet reports it, nor does an allocation failure
@@ -49,7 +49,7 @@ packet_off w e z p (FromBag _ _ _ _) y n o = refl
 packet_off w e z p (FromStranger _ _ _) y n o = refl
 packet_off w e z p (NoPacket _) y n o = refl
 
-none_off : (e : Event) (y : Side) (n : ℕ) → is_reported y n e None ≡ false
+pub none_off : (e : Event) (y : Side) (n : ℕ) → is_reported y n e None ≡ false
 none_off (OpenBoth a b) y n = refl
 none_off (Later s m) y n = refl
 none_off (Moment s) y n = refl
@@ -67,13 +67,13 @@ none_off (WasReset s) y n = refl
 none_off (Shutdown s) y n = refl
 none_off (Abort s r) y n = refl
 
-side_is : (s x : Side) → same_side s x ≡ true → s ≡ x
+pub side_is : (s x : Side) → same_side s x ≡ true → s ≡ x
 side_is A A on = refl
 side_is B B on = refl
 side_is A B on = absurd (cc)
 side_is B A on = absurd (cc)
 
-reported_step : (w : World) (e : Event) (o : Option Outcome) (v : World) → Step w e o v → (y : Side) (n : ℕ) → is_reported y n e o ≡ true → IsReported y n w v
+pub reported_step : (w : World) (e : Event) (o : Option Outcome) (v : World) → Step w e o v → (y : Side) (n : ℕ) → is_reported y n e o ≡ true → IsReported y n w v
 reported_step w e o v (OpensBoth _ _ _ _ _ _) y n on = absurd (cc)
 reported_step w e o v (OpenRefused _ _ _) y n on = absurd (cc)
 reported_step w e o v (TimeGoesOn z m small) y n on = absurd (cc)
@@ -126,16 +126,16 @@ module _ (x : Side) (n : ℕ) where
       same B = number
 
   -- one that is to be reported
-  abbrev waiting : World → ℕ
+  abbrev pub waiting : World → ℕ
   waiting w = one_if (is_some ((end_of w (other x)).receiver.resets.told n))
 
-  abbrev Noted : World → Type 0
+  abbrev pub Noted : World → Type 0
   Noted w = IsNoted (end_of w x).sender (end_of w (other x)).receiver n
 
   -- This many were reported, and this many were asked for: one more may be reported if a reset is asked for that isn't noted yet.
-  record Counts (reported accepted : ℕ) (w : World) : Type 0 where
-    within : reported + waiting w ≤ accepted
-    asked : is_resetting ((end_of w x).sender.resets.sending n) ≡ true → Noted w ⊎ (reported + waiting w < accepted)
+  pub record Counts (reported accepted : ℕ) (w : World) : Type 0 where
+    pub within : reported + waiting w ≤ accepted
+    pub asked : is_resetting ((end_of w x).sender.resets.sending n) ≡ true → Noted w ⊎ (reported + waiting w < accepted)
 
   module _ (s : Setup) (drawn : List ℕ) (configured : (y : Side) → IsConfiguration (configuration_of s y)) (d : Dates) where
     one_more : (t a : ℕ) (w v : World) (e : Event) (o : Option Outcome) → StepResets d x n w e o v → Step w e o v → Counts t a w →
@@ -219,9 +219,29 @@ module _ (x : Side) (n : ℕ) where
     counted t a w (e ∷ es) [] vs fine passes kept i c = absurd passes
     counted t a w (e ∷ es) (o ∷ os) [] fine passes kept i c = absurd passes
 
+    -- so at each place on the way no more were reported than were asked for
+    abbrev pub AllWithin : (t a : ℕ) → List Event → List (Option Outcome) → Type 0
+    AllWithin t a (e ∷ es) (o ∷ os) =
+        (t + one_if (is_reported (other x) n e o) ≤ a + one_if (is_reset x n e o)) × AllWithin (t + one_if (is_reported (other x) n e o)) (a + one_if (is_reset x n e o)) es os
+    AllWithin t a es os = Unit {0}
+
+    pub all_within : (t a : ℕ) (w : World) (es : List Event) (os : List (Option Outcome)) (vs : List World) → ((e : Event) → Has es e → IsFine s drawn e) → PassesThrough w es os vs →
+        AllKept d w es vs → IsSteady s drawn d w → Counts t a w → AllWithin t a es os
+    all_within t a w [] [] [] fine passes kept i c = tt
+    all_within t a w (e ∷ es) (o ∷ os) (v ∷ vs) fine (step, passes) (now, kept) i c =
+        let this = fine e (inl refl) in
+        let one = one_more t a w v e o (step_resets s drawn configured d w v e o now this i step x n) step c in (
+          (let low = one.within in omega (arith, low)),
+          all_within (t + one_if (is_reported (other x) n e o)) (a + one_if (is_reset x n e o)) v es os vs (λ y h. fine y (inr h)) passes kept (steady_step s drawn configured d w v e o now this i step) one,
+        )
+    all_within t a w [] (o ∷ os) vs fine passes kept i c = absurd passes
+    all_within t a w [] [] (v ∷ vs) fine passes kept i c = absurd passes
+    all_within t a w (e ∷ es) [] vs fine passes kept i c = absurd passes
+    all_within t a w (e ∷ es) (o ∷ os) [] fine passes kept i c = absurd passes
+
 -- ---- a run
 
-starts : (s : Setup) (x : Side) (n : ℕ) → Counts x n 0 0 (start s)
+pub starts : (s : Setup) (x : Side) (n : ℕ) → Counts x n 0 0 (start s)
 starts s A n = record { within = omega arith; asked = λ on. absurd (cc) }
 starts s B n = record { within = omega arith; asked = λ on. absurd (cc) }
 

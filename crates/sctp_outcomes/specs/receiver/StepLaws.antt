@@ -90,6 +90,6 @@ ForwardsAreTakenSo = (f : Format) (r t : ReceiverView) (c : ℕ) (x : ForwardMea
 abbrev pub RunsAreComputed : Type 0
 RunsAreComputed = (r : ReceiverView) (c bound : ℕ) → IsBound r bound → IsCumulative r c → AreAllRuns r c (all_runs r c bound)
 
--- a view has one SACK
+-- a view has one SACK with at most this many gap blocks
 abbrev pub SackIsOne : Type 0
-SackIsOne = (r : ReceiverView) (s t : SackMeaning) → IsSack r s → IsSack r t → s ≡ t
+SackIsOne = (most : ℕ) (r : ReceiverView) (s t : SackMeaning) → IsSack most r s → IsSack most r t → s ≡ t

@@ -9,6 +9,7 @@ pub record AreAlike (c d : Configuration) : Type 0 where
   pub interleave : d.interleave ≡ c.interleave
   pub partial : d.partial ≡ c.partial
   pub reset : d.reset ≡ c.reset
+  pub zero_checksum : d.zero_checksum ≡ c.zero_checksum
 
 both_hold : (a b : Bool) → (a && b) ≡ true → (a ≡ true) × (b ≡ true)
 both_hold true b h = (refl, h)
@@ -25,14 +26,18 @@ alike_is c d h = record {
   streams = eqb-true (min d.outbound d.inbound) (min c.outbound c.inbound) one.0;
   interleave = shared_is d.interleave c.interleave two.0;
   partial = shared_is d.partial c.partial three.0;
-  reset = shared_is d.reset c.reset three.1;
+  reset = shared_is d.reset c.reset four.0;
+  zero_checksum = shared_is d.zero_checksum c.zero_checksum four.1;
 }
   where
-    one : ((min d.outbound d.inbound == min c.outbound c.inbound) ≡ true) × ((is_shared d.interleave c.interleave && (is_shared d.partial c.partial && is_shared d.reset c.reset)) ≡ true)
+    one : ((min d.outbound d.inbound == min c.outbound c.inbound) ≡ true) × ((is_shared d.interleave c.interleave && (is_shared d.partial c.partial && (is_shared d.reset c.reset && is_shared d.zero_checksum c.zero_checksum))) ≡ true)
     one = both_hold _ _ h
 
-    two : (is_shared d.interleave c.interleave ≡ true) × ((is_shared d.partial c.partial && is_shared d.reset c.reset) ≡ true)
+    two : (is_shared d.interleave c.interleave ≡ true) × ((is_shared d.partial c.partial && (is_shared d.reset c.reset && is_shared d.zero_checksum c.zero_checksum)) ≡ true)
     two = both_hold _ _ one.1
 
-    three : (is_shared d.partial c.partial ≡ true) × (is_shared d.reset c.reset ≡ true)
+    three : (is_shared d.partial c.partial ≡ true) × ((is_shared d.reset c.reset && is_shared d.zero_checksum c.zero_checksum) ≡ true)
     three = both_hold _ _ two.1
+
+    four : (is_shared d.reset c.reset ≡ true) × (is_shared d.zero_checksum c.zero_checksum ≡ true)
+    four = both_hold _ _ three.1

@@ -1,5 +1,5 @@
 -- What a listener answers to the caller's INIT, and that the caller reads in it the terms which the cookie names.
-use Rattle.std.proofs.Common.{◌≡◌, ℕ, ◌^◌, ◌<◌, ◌≤◌, min, List, [], ◌∷◌, ◌++◌, length, Some, refl, sym, subst, ap, arith, ◌∙◌}
+use Rattle.std.proofs.Common.{◌≡◌, ℕ, ◌^◌, ◌<◌, ◌≤◌, min, List, [], ◌∷◌, ◌++◌, length, Some, refl, sym, subst, ap, arith, ◌∙◌, Bool, true, false, ◌&&◌, if◌then◌else◌}
 use Rattle.std.proofs.Math.Nat.{min-le_left, le-min}
 use Rattle.sctp_model.specs.numbers.Limits.{STREAM_LIMIT}
 use Rattle.sctp_model.specs.numbers.Lists.{Has}
@@ -9,11 +9,11 @@ use Rattle.sctp_model.specs.end.Sealing.{Body}
 use Rattle.sctp_model.specs.end.EndView.{Configuration, Draw, EndView, IsDraw}
 use Rattle.sctp_model.specs.end.Configured.{IsConfiguration}
 use Rattle.sctp_model.specs.end.Reports.{written, item, fits_alone, as_fit}
-use Rattle.sctp_model.specs.end.Options.{STATE_COOKIE, value_of, own_options, reports_of}
+use Rattle.sctp_model.specs.end.Options.{STATE_COOKIE, value_of, own_options, reports_of, said_to, agreed_interleave, agreed_partial, agreed_reset, agreed_zero_checksum}
 use Rattle.sctp_model.specs.end.Opening.{introduction, body_for, init_ack_with, init_ack, terms_of_ack, terms_of_body}
 use Rattle.sctp_model.specs.world.World.{Side, A, B, Setup, configuration_of}
 use Rattle.sctp_safety.specs.Agreement.{AreAgreed}
-use Rattle.sctp_safety.proofs.machine.OwnOptions.{nothing_to_report, interleave_read, partial_read, cookie_read_back, interleave_behind, partial_behind, reset_read, reset_behind, both_ways}
+use Rattle.sctp_safety.proofs.machine.OwnOptions.{nothing_to_report, interleave_read, partial_read, cookie_read_back, interleave_behind, partial_behind, reset_read, reset_behind, zero_read, zero_behind, both_ways}
 
 -- The INIT that a caller of this draw sends.
 abbrev pub init_of : Setup → Draw → InitMeaning
@@ -28,6 +28,17 @@ pub record IsAnswer (s : Setup) (drawn : List ℕ) (d : Draw) (m : InitMeaning) 
   pub listener_tag : body.listener.tag ≡ m.tag
   pub caller_tag : body.caller.tag ≡ d.tag
   pub drawn_tag : Has drawn m.tag
+
+-- what both are set up for, if the listener says what it is set up for, or what was agreed on
+said_so : (strict a b x : Bool) → x ≡ (b && a) → (a && (if strict then x else b)) ≡ (b && a)
+said_so false a b x is = both_ways a b
+said_so true a b x is = ap (λ (y : Bool). a && y) is ∙ again a b
+  where
+    again : (a b : Bool) → (a && (b && a)) ≡ (b && a)
+    again false false = refl
+    again false true = refl
+    again true false = refl
+    again true true = refl
 
 -- two counts that aren't 0
 pub both_some : (n m : ℕ) → 1 ≤ n → 1 ≤ m → 0 < min n m
@@ -46,8 +57,12 @@ module _ (s : Setup) (configured : (x : Side) → IsConfiguration (configuration
     abbrev body : Body
     body = body_for listener x (init_of s d)
 
+    -- what the listener says of itself
+    abbrev said : Configuration
+    said = said_to (configuration_of s B) (init_of s d).parameters
+
     abbrev parameters : List ℕ
-    parameters = written (item STATE_COOKIE (s.sealing.sealed body) ∷ (own_options (configuration_of s B) ++ []))
+    parameters = written (item STATE_COOKIE (s.sealing.sealed body) ∷ (own_options said ++ []))
 
     abbrev answer : InitMeaning
     answer = introduction (configuration_of s B) x parameters
@@ -75,16 +90,29 @@ module _ (s : Setup) (configured : (x : Side) → IsConfiguration (configuration
           first_tsn_back = refl;
           streams = refl;
           streams_back = refl;
-          interleave = interleave_read (configuration_of s B) (configuration_of s A) ∙ both_ways (configuration_of s B).interleave (configuration_of s A).interleave ∙ sym (interleave_behind (configuration_of s A) (configuration_of s B) (s.sealing.sealed body) short);
-          partial = partial_read (configuration_of s B) (configuration_of s A) ∙ both_ways (configuration_of s B).partial (configuration_of s A).partial ∙ sym (partial_behind (configuration_of s A) (configuration_of s B) (s.sealing.sealed body) short);
-          reset = reset_read (configuration_of s B) (configuration_of s A) ∙ both_ways (configuration_of s B).reset (configuration_of s A).reset ∙ sym (reset_behind (configuration_of s A) (configuration_of s B) (s.sealing.sealed body) short);
+          interleave =
+              let read = interleave_read (configuration_of s B) (configuration_of s A) in
+              read ∙ sym (said_so (configuration_of s B).strict (configuration_of s A).interleave (configuration_of s B).interleave (agreed_interleave (configuration_of s B) (init_of s d).parameters) read)
+              ∙ sym (interleave_behind (configuration_of s A) said (s.sealing.sealed body) short);
+          partial =
+              let read = partial_read (configuration_of s B) (configuration_of s A) in
+              read ∙ sym (said_so (configuration_of s B).strict (configuration_of s A).partial (configuration_of s B).partial (agreed_partial (configuration_of s B) (init_of s d).parameters) read)
+              ∙ sym (partial_behind (configuration_of s A) said (s.sealing.sealed body) short);
+          reset =
+              let read = reset_read (configuration_of s B) (configuration_of s A) in
+              read ∙ sym (said_so (configuration_of s B).strict (configuration_of s A).reset (configuration_of s B).reset (agreed_reset (configuration_of s B) (init_of s d).parameters) read)
+              ∙ sym (reset_behind (configuration_of s A) said (s.sealing.sealed body) short);
+          zero_checksum =
+              let read = zero_read (configuration_of s B) (configuration_of s A) in
+              read ∙ sym (said_so (configuration_of s B).strict (configuration_of s A).zero_checksum (configuration_of s B).zero_checksum (agreed_zero_checksum (configuration_of s B) (init_of s d).parameters) read)
+              ∙ sym (zero_behind (configuration_of s A) said (s.sealing.sealed body) short);
           some_streams = (both_some (configuration_of s A).outbound (configuration_of s B).inbound (a.outbound.0) (b.inbound.0), both_some (configuration_of s B).outbound (configuration_of s A).inbound (b.outbound.0) (a.inbound.0));
         }
 
     pub is_answer : Has drawn x.tag → IsAnswer s drawn d answer
     is_answer tag = record {
       body = body;
-      cookie = cookie_read_back (configuration_of s A) (configuration_of s B) (s.sealing.sealed body) short;
+      cookie = cookie_read_back (configuration_of s A) said (s.sealing.sealed body) short;
       opens = in_range;
       agreed = agreed;
       listener_tag = refl;

@@ -9,7 +9,7 @@ use Rattle.sctp_model.specs.end.EndView.{Draw, Configuration, EndView}
 use Rattle.sctp_model.specs.end.Reports.{item, INVALID_PARAMETER}
 use Rattle.sctp_model.specs.end.PeerFaults.{Replies, packet_to, abort_for}
 use Rattle.sctp_model.specs.end.Opening.{RefusedAck, CookieRead, CookieOpens, CookieLate, Strange, cookie_read, has_no_stream, init_ack}
-use Rattle.sctp_model.specs.end.Acting.{IsUnknown, Acts, PieceEmpty, WrongFormat, SackWrong, ShutdownWrong, AckCompletes, WrongKind, IsBad}
+use Rattle.sctp_model.specs.end.Acting.{IsUnknown, Acts, PieceEmpty, WrongFormat, SackWrong, ShutdownWrong, AckCompletes, WrongKind, IsBad, Misnumbered}
 use Rattle.sctp_model.specs.end.Strays.{Verdict, Dropped, Answer, holds_abort, listens, init_verdict, cookie_verdict, echo_verdict, first_verdict, chunks_verdict, stray_verdict}
 use Rattle.sctp_model.specs.end.Arriving.{AllAct, NoneLeft, Next, Last, EndsAnswered, Stopped, Notes, noted, verdict_of}
 use Rattle.sctp_model.specs.end.Arriving.{Passes}
@@ -37,8 +37,10 @@ one_chunk c tag y off x (inr none) = elim none [ ]
 pub replies_nothing : (e : EndView) (tag : ℕ) (x : ChunkMeaning) (t : EndView) (p : Packet) → Acts e tag x (Replies t p) → OpensNothing p
 replies_nothing e tag (Data q) t p (PieceEmpty u _ _ _ _) = one_chunk e.configuration u.peer _ refl
 replies_nothing e tag (Data q) t p (WrongFormat u _ _ _ _ _) = one_chunk e.configuration u.peer _ refl
+replies_nothing e tag (Data q) t p (Misnumbered u _ _ _ _ _ _ _ _) = one_chunk e.configuration u.peer _ refl
 replies_nothing e tag (IData q) t p (PieceEmpty u _ _ _ _) = one_chunk e.configuration u.peer _ refl
 replies_nothing e tag (IData q) t p (WrongFormat u _ _ _ _ _) = one_chunk e.configuration u.peer _ refl
+replies_nothing e tag (IData q) t p (Misnumbered u _ _ _ _ _ _ _ _) = one_chunk e.configuration u.peer _ refl
 replies_nothing e tag (Init m) t p h = absurd (cc)
 replies_nothing e tag (InitAck m) t p (RefusedAck _ _ _ _ _) = one_chunk e.configuration m.tag _ refl
 replies_nothing e tag (Sack s) t p (SackWrong u _ _ _ _) = one_chunk e.configuration u.peer _ refl

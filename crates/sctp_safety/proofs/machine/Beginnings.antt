@@ -36,7 +36,7 @@ module _ (s : Setup) (drawn : List ℕ) (w : World) where
           (let c = configured A in both_some (configuration_of s A).outbound (configuration_of s A).inbound (c.outbound.0) (c.inbound.0))
 
       alike : AreAgreed (terms_alike w.a.configuration x y) (terms_alike w.b.configuration y x)
-      alike = record { first_tsn = refl; first_tsn_back = refl; streams = like.streams; streams_back = like.streams; interleave = like.interleave; partial = like.partial; reset = like.reset; some_streams = (some, some) }
+      alike = record { first_tsn = refl; first_tsn_back = refl; streams = like.streams; streams_back = like.streams; interleave = like.interleave; partial = like.partial; reset = like.reset; zero_checksum = like.zero_checksum; some_streams = (some, some) }
 
       either : (n : ℕ) → Has (x.tag ∷ y.tag ∷ []) n → Has drawn n
       either n (inl e) = subst (Has drawn) e hx

@@ -6,7 +6,7 @@ use Rattle.sctp_model.specs.wire.Packet.{Packet}
 use Rattle.sctp_model.specs.end.Sealing.{Body}
 use Rattle.sctp_model.specs.end.EndView.{Configuration, Tags, Draw, Phase, Calling, Echoing, EndView}
 use Rattle.sctp_model.specs.end.Opening.{own_init}
-use Rattle.sctp_model.specs.end.Building.{Slot, EchoSlot, ErrorSlot, echoing_slots, Wants, EchoCookie, AckCookie, AckHeartbeat, ReportCauses, Acknowledge, PassOn, AnswerReset, AskReset, SayShutdown, AnswerShutdown, Puts, NoMore, NotDue, Put, IsFull, Builds, Sleeps, Waits, Calls, Echoes, Fills, once_built}
+use Rattle.sctp_model.specs.end.Building.{Slot, EchoSlot, ErrorSlot, echoing_slots, Wants, EchoCookie, AckCookie, AckHeartbeat, Beat, ReportCauses, Acknowledge, PassOn, AnswerReset, AskReset, SayShutdown, AnswerShutdown, Puts, NoMore, NotDue, Put, IsFull, Builds, Sleeps, Waits, Calls, Echoes, Fills, once_built}
 use Rattle.sctp_model.specs.end.Building.{EndsFull}
 use Rattle.sctp_model.specs.end.UserCalls.{is_open}
 use Rattle.sctp_model.specs.world.World.{Setup}
@@ -37,6 +37,7 @@ wants_said s e x may (EchoCookie u xs is) = record { phase = refl; configuration
 wants_said s e x may ReportCauses = record { phase = refl; configuration = refl; said = Says refl }
 wants_said s e x may AckCookie = absurd (cc)
 wants_said s e x may (AckHeartbeat _ _) = absurd (cc)
+wants_said s e x may Beat = absurd (cc)
 wants_said s e x may (Acknowledge _ _) = absurd (cc)
 wants_said s e x may PassOn = absurd (cc)
 wants_said s e x may AnswerReset = absurd (cc)

@@ -15,7 +15,9 @@ use Rattle.sctp_model.specs.end.PeerFaults.{packet_to, Unnoted}
 use Rattle.sctp_model.specs.end.Acting.{ShutdownCounts, AckCompletes, CompleteCompleted, shutdown_heard}
 use Rattle.sctp_model.specs.end.Strays.{Taken, Answer}
 use Rattle.sctp_model.specs.end.Arriving.{Heard, NoneLeft, Next, Last, EndsAnswered, ReadAs, no_notes, noted}
+use Rattle.sctp_model.specs.end.Beating.{guarded}
 use Rattle.sctp_model.specs.end.Building.{CookieAckSlot, HeartbeatSlot, ErrorSlot, SackSlot, ForwardSlot, AnswerSlot, RequestSlot, ShutdownSlot, ShutdownAckSlot, SayShutdown, AnswerShutdown, NoMore, NotDue, Put, Fills, sent, packet_of}
+use Rattle.sctp_model.specs.end.Building.{BeatSlot}
 use Rattle.sctp_model.specs.end.UserCalls.{shut}
 use Rattle.sctp_model.specs.world.World.{Side, A, B, World, with_end, with_packet, end_now, came}
 use Rattle.sctp_model.specs.world.Events.{told, Event, OpenBoth, Foreign, Build, Deliver, Shutdown, Outcome, Done, Sent, Acted}
@@ -31,10 +33,10 @@ abbrev closing : List Event
 closing = Shutdown A ∷ Build A ∷ Deliver A 3 ∷ Build B ∷ Deliver B 3 ∷ Deliver A 4 ∷ []
 
 -- nothing arrived, so all up to index 0 is reached
-fresh_cumulative : (i s b : ℕ) → IsCumulative (fresh_receiver i s b) 0
-fresh_cumulative i s b = record { reached = λ j low high. absurd (omega (arith, low, high)); open_end = λ h. go h }
+fresh_cumulative : (i s b v : ℕ) → IsCumulative (fresh_receiver i s b v) 0
+fresh_cumulative i s b v = record { reached = λ j low high. absurd (omega (arith, low, high)); open_end = λ h. go h }
   where
-    go : Reaches (fresh_receiver i s b) 1 → ⊥
+    go : Reaches (fresh_receiver i s b v) 1 → ⊥
     go (inl e) = absurd (cc)
     go (inr h) = absurd (omega (arith, h))
 
@@ -43,7 +45,7 @@ abbrev w10 : World
 w10 = with_end w9 A (shut w9.a)
 
 abbrev said : EndView
-said = started ShutdownAlarm (with_due (record (end_now w10 A).due { shutdown = false }) (end_now w10 A))
+said = guarded (started ShutdownAlarm (with_due (record (end_now w10 A).due { shutdown = false }) (end_now w10 A)))
 
 abbrev packet_5 : Packet
 packet_5 = packet_of w10.a (Says (tsn 200 0) ∷ [])
@@ -82,16 +84,17 @@ step_10 = ShutsDown A
 step_11 : Step w10 (Build A) (Some (Sent 3 (size_of_packet (Says (tsn 200 0) ∷ [])))) w11
 unfolding u16_bytes u32_bytes u16_at u32_at starts_typed typed_of
 step_11 = BuildsOne A (Says (tsn 200 0)) [] (sent said (Says (tsn 200 0) ∷ [])) (Fills tags_a ShutdownSent (Says (tsn 200 0) ∷ []) said refl
-    (NotDue CookieAckSlot (HeartbeatSlot ∷ ErrorSlot ∷ SackSlot ∷ ForwardSlot ∷ AnswerSlot ∷ RequestSlot ∷ ShutdownSlot ∷ ShutdownAckSlot ∷ []) (end_now w10 A) [] (Says (tsn 200 0) ∷ []) false said refl
-    (NotDue HeartbeatSlot (ErrorSlot ∷ SackSlot ∷ ForwardSlot ∷ AnswerSlot ∷ RequestSlot ∷ ShutdownSlot ∷ ShutdownAckSlot ∷ []) (end_now w10 A) [] (Says (tsn 200 0) ∷ []) false said refl
+    (NotDue CookieAckSlot (HeartbeatSlot ∷ BeatSlot ∷ ErrorSlot ∷ SackSlot ∷ ForwardSlot ∷ AnswerSlot ∷ RequestSlot ∷ ShutdownSlot ∷ ShutdownAckSlot ∷ []) (end_now w10 A) [] (Says (tsn 200 0) ∷ []) false said refl
+    (NotDue HeartbeatSlot (BeatSlot ∷ ErrorSlot ∷ SackSlot ∷ ForwardSlot ∷ AnswerSlot ∷ RequestSlot ∷ ShutdownSlot ∷ ShutdownAckSlot ∷ []) (end_now w10 A) [] (Says (tsn 200 0) ∷ []) false said refl
+    (NotDue BeatSlot (ErrorSlot ∷ SackSlot ∷ ForwardSlot ∷ AnswerSlot ∷ RequestSlot ∷ ShutdownSlot ∷ ShutdownAckSlot ∷ []) (end_now w10 A) [] (Says (tsn 200 0) ∷ []) false said refl
     (NotDue ErrorSlot (SackSlot ∷ ForwardSlot ∷ AnswerSlot ∷ RequestSlot ∷ ShutdownSlot ∷ ShutdownAckSlot ∷ []) (end_now w10 A) [] (Says (tsn 200 0) ∷ []) false said refl
     (NotDue SackSlot (ForwardSlot ∷ AnswerSlot ∷ RequestSlot ∷ ShutdownSlot ∷ ShutdownAckSlot ∷ []) (end_now w10 A) [] (Says (tsn 200 0) ∷ []) false said refl
     (NotDue ForwardSlot (AnswerSlot ∷ RequestSlot ∷ ShutdownSlot ∷ ShutdownAckSlot ∷ []) (end_now w10 A) [] (Says (tsn 200 0) ∷ []) false said refl
     (NotDue AnswerSlot (RequestSlot ∷ ShutdownSlot ∷ ShutdownAckSlot ∷ []) (end_now w10 A) [] (Says (tsn 200 0) ∷ []) false said refl
     (NotDue RequestSlot (ShutdownSlot ∷ ShutdownAckSlot ∷ []) (end_now w10 A) [] (Says (tsn 200 0) ∷ []) false said refl
-    (Put ShutdownSlot (ShutdownAckSlot ∷ []) (end_now w10 A) (Says (tsn 200 0)) [] (Says (tsn 200 0) ∷ []) false said refl (SayShutdown 0 (fresh_cumulative 200 2 65536)) refl
+    (Put ShutdownSlot (ShutdownAckSlot ∷ []) (end_now w10 A) (Says (tsn 200 0)) [] (Says (tsn 200 0) ∷ []) false said refl (SayShutdown 0 (fresh_cumulative 200 2 65536 0)) refl
     (NotDue ShutdownAckSlot [] said (Says (tsn 200 0) ∷ []) (Says (tsn 200 0) ∷ []) false said refl
-    (NoMore said (Says (tsn 200 0) ∷ []))))))))))))
+    (NoMore said (Says (tsn 200 0) ∷ [])))))))))))))
 
 step_12 : Step w11 (Deliver A 3) (Some Acted) w12
 unfolding u16_bytes u32_bytes u16_at u32_at starts_typed typed_of
@@ -103,8 +106,9 @@ step_12 = PacketComes (Deliver A 3) B (Some packet_5) (rested heard) Taken (From
 step_13 : Step w12 (Build B) (Some (Sent 3 (size_of_packet (ShutdownAck ∷ [])))) w13
 unfolding u16_bytes u32_bytes u16_at u32_at starts_typed typed_of
 step_13 = BuildsOne B ShutdownAck [] (sent answered (ShutdownAck ∷ [])) (Fills tags_b ShutdownAckSent (ShutdownAck ∷ []) answered refl
-    (NotDue CookieAckSlot (HeartbeatSlot ∷ ErrorSlot ∷ SackSlot ∷ ForwardSlot ∷ AnswerSlot ∷ RequestSlot ∷ ShutdownSlot ∷ ShutdownAckSlot ∷ []) (end_now w12 B) [] (ShutdownAck ∷ []) false answered refl
-    (NotDue HeartbeatSlot (ErrorSlot ∷ SackSlot ∷ ForwardSlot ∷ AnswerSlot ∷ RequestSlot ∷ ShutdownSlot ∷ ShutdownAckSlot ∷ []) (end_now w12 B) [] (ShutdownAck ∷ []) false answered refl
+    (NotDue CookieAckSlot (HeartbeatSlot ∷ BeatSlot ∷ ErrorSlot ∷ SackSlot ∷ ForwardSlot ∷ AnswerSlot ∷ RequestSlot ∷ ShutdownSlot ∷ ShutdownAckSlot ∷ []) (end_now w12 B) [] (ShutdownAck ∷ []) false answered refl
+    (NotDue HeartbeatSlot (BeatSlot ∷ ErrorSlot ∷ SackSlot ∷ ForwardSlot ∷ AnswerSlot ∷ RequestSlot ∷ ShutdownSlot ∷ ShutdownAckSlot ∷ []) (end_now w12 B) [] (ShutdownAck ∷ []) false answered refl
+    (NotDue BeatSlot (ErrorSlot ∷ SackSlot ∷ ForwardSlot ∷ AnswerSlot ∷ RequestSlot ∷ ShutdownSlot ∷ ShutdownAckSlot ∷ []) (end_now w12 B) [] (ShutdownAck ∷ []) false answered refl
     (NotDue ErrorSlot (SackSlot ∷ ForwardSlot ∷ AnswerSlot ∷ RequestSlot ∷ ShutdownSlot ∷ ShutdownAckSlot ∷ []) (end_now w12 B) [] (ShutdownAck ∷ []) false answered refl
     (NotDue SackSlot (ForwardSlot ∷ AnswerSlot ∷ RequestSlot ∷ ShutdownSlot ∷ ShutdownAckSlot ∷ []) (end_now w12 B) [] (ShutdownAck ∷ []) false answered refl
     (NotDue ForwardSlot (AnswerSlot ∷ RequestSlot ∷ ShutdownSlot ∷ ShutdownAckSlot ∷ []) (end_now w12 B) [] (ShutdownAck ∷ []) false answered refl
@@ -112,7 +116,7 @@ step_13 = BuildsOne B ShutdownAck [] (sent answered (ShutdownAck ∷ [])) (Fills
     (NotDue RequestSlot (ShutdownSlot ∷ ShutdownAckSlot ∷ []) (end_now w12 B) [] (ShutdownAck ∷ []) false answered refl
     (NotDue ShutdownSlot (ShutdownAckSlot ∷ []) (end_now w12 B) [] (ShutdownAck ∷ []) false answered refl
     (Put ShutdownAckSlot [] (end_now w12 B) ShutdownAck [] (ShutdownAck ∷ []) false answered refl AnswerShutdown refl
-    (NoMore answered (ShutdownAck ∷ []))))))))))))
+    (NoMore answered (ShutdownAck ∷ [])))))))))))))
 
 step_14 : Step w13 (Deliver B 3) (Some (told w13 A (Answer packet_7))) w14
 unfolding u16_bytes u32_bytes u16_at u32_at starts_typed typed_of

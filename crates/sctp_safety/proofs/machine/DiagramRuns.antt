@@ -200,7 +200,7 @@ no_turn h k why is (ByPair t) = absurd (cc)
 no_turn h k why is (ByStage t g i turn) = absurd (cc)
 no_turn h k why is (ByEnd _ other has) = let q : false ≡ true = subst (λ (l : Phase). has_association l ≡ true) is has in absurd (cc)
 
-from_over : (h k : Phase) (why : Ended) → h ≡ Over why → IsPath h k → k ≡ Over why
+pub from_over : (h k : Phase) (why : Ended) → h ≡ Over why → IsPath h k → k ≡ Over why
 from_over h k why is (Here _) = is
 from_over h k why is (On _ m _ t rest) = absurd (no_turn h m why is t)
 

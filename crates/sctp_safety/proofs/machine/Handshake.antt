@@ -13,7 +13,7 @@ use Rattle.sctp_model.specs.end.Opening.{body_for, AcceptedAck, acknowledged_ech
 use Rattle.sctp_model.specs.end.Strays.{Taken, stray_verdict}
 use Rattle.sctp_model.specs.end.PeerFaults.{Unnoted}
 use Rattle.sctp_model.specs.end.Arriving.{Stray, CookieBegins, Heard, NoneLeft, Next, ReadAs, no_notes, noted}
-use Rattle.sctp_model.specs.end.Building.{EchoSlot, CookieAckSlot, HeartbeatSlot, ErrorSlot, SackSlot, ForwardSlot, AnswerSlot, RequestSlot, ShutdownSlot, ShutdownAckSlot, EchoCookie, AckCookie, NoMore, NotDue, Put, Calls, Echoes, Fills, sent}
+use Rattle.sctp_model.specs.end.Building.{EchoSlot, CookieAckSlot, HeartbeatSlot, BeatSlot, ErrorSlot, SackSlot, ForwardSlot, AnswerSlot, RequestSlot, ShutdownSlot, ShutdownAckSlot, EchoCookie, AckCookie, NoMore, NotDue, Put, Calls, Echoes, Fills, sent}
 use Rattle.sctp_model.specs.world.World.{Side, A, B, end_now, configuration_of}
 use Rattle.sctp_model.specs.world.Events.{told, OpenBoth, Drawing, Connect, Build, Deliver, Foreign, Done, Sent, Acted}
 use Rattle.sctp_model.specs.world.Steps.{Step, Draws, Connects, BuildsOne, FromBag, PacketComes, Run, Rest, Then}
@@ -62,15 +62,16 @@ step_7 = PacketComes (Deliver A 2) B (Some packet_3) begins Taken (FromBag A 2 p
 step_8 : Step w7 (Build B) (Some (Sent 2 (size_of_packet (CookieAck ∷ [])))) w8
 unfolding u16_bytes u32_bytes u16_at u32_at starts_typed typed_of
 step_8 = BuildsOne B CookieAck [] (sent acked (CookieAck ∷ [])) (Fills (record { own = 9; peer = 7 }) Established (CookieAck ∷ []) acked refl
-    (Put CookieAckSlot (HeartbeatSlot ∷ ErrorSlot ∷ SackSlot ∷ ForwardSlot ∷ AnswerSlot ∷ RequestSlot ∷ ShutdownSlot ∷ ShutdownAckSlot ∷ []) (end_now w7 B) CookieAck [] (CookieAck ∷ []) false acked refl AckCookie refl
-    (NotDue HeartbeatSlot (ErrorSlot ∷ SackSlot ∷ ForwardSlot ∷ AnswerSlot ∷ RequestSlot ∷ ShutdownSlot ∷ ShutdownAckSlot ∷ []) acked (CookieAck ∷ []) (CookieAck ∷ []) false acked refl
+    (Put CookieAckSlot (HeartbeatSlot ∷ BeatSlot ∷ ErrorSlot ∷ SackSlot ∷ ForwardSlot ∷ AnswerSlot ∷ RequestSlot ∷ ShutdownSlot ∷ ShutdownAckSlot ∷ []) (end_now w7 B) CookieAck [] (CookieAck ∷ []) false acked refl AckCookie refl
+    (NotDue HeartbeatSlot (BeatSlot ∷ ErrorSlot ∷ SackSlot ∷ ForwardSlot ∷ AnswerSlot ∷ RequestSlot ∷ ShutdownSlot ∷ ShutdownAckSlot ∷ []) acked (CookieAck ∷ []) (CookieAck ∷ []) false acked refl
+    (NotDue BeatSlot (ErrorSlot ∷ SackSlot ∷ ForwardSlot ∷ AnswerSlot ∷ RequestSlot ∷ ShutdownSlot ∷ ShutdownAckSlot ∷ []) acked (CookieAck ∷ []) (CookieAck ∷ []) false acked refl
     (NotDue ErrorSlot (SackSlot ∷ ForwardSlot ∷ AnswerSlot ∷ RequestSlot ∷ ShutdownSlot ∷ ShutdownAckSlot ∷ []) acked (CookieAck ∷ []) (CookieAck ∷ []) false acked refl
     (NotDue SackSlot (ForwardSlot ∷ AnswerSlot ∷ RequestSlot ∷ ShutdownSlot ∷ ShutdownAckSlot ∷ []) acked (CookieAck ∷ []) (CookieAck ∷ []) false acked refl
     (NotDue ForwardSlot (AnswerSlot ∷ RequestSlot ∷ ShutdownSlot ∷ ShutdownAckSlot ∷ []) acked (CookieAck ∷ []) (CookieAck ∷ []) false acked refl
     (NotDue AnswerSlot (RequestSlot ∷ ShutdownSlot ∷ ShutdownAckSlot ∷ []) acked (CookieAck ∷ []) (CookieAck ∷ []) false acked refl
     (NotDue RequestSlot (ShutdownSlot ∷ ShutdownAckSlot ∷ []) acked (CookieAck ∷ []) (CookieAck ∷ []) false acked refl
     (NotDue ShutdownSlot (ShutdownAckSlot ∷ []) acked (CookieAck ∷ []) (CookieAck ∷ []) false acked refl
-    (NotDue ShutdownAckSlot [] acked (CookieAck ∷ []) (CookieAck ∷ []) false acked refl (NoMore acked (CookieAck ∷ []))))))))))))
+    (NotDue ShutdownAckSlot [] acked (CookieAck ∷ []) (CookieAck ∷ []) false acked refl (NoMore acked (CookieAck ∷ [])))))))))))))
 
 step_9 : Step w8 (Deliver B 2) (Some Acted) w9
 unfolding u16_bytes u32_bytes u16_at u32_at starts_typed typed_of

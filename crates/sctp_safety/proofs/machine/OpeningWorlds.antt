@@ -15,7 +15,7 @@ use Rattle.sctp_model.specs.end.Building.{sent, packet_of}
 use Rattle.sctp_model.specs.end.UserCalls.{called}
 use Rattle.sctp_model.specs.world.World.{A, B, World, with_end, with_packet, end_now, came, Setup, configuration_of, start}
 use Rattle.sctp_model.specs.world.Events.{with_verdict, told, Event, Drawing, Connect, Build, Deliver, Outcome, Done, Sent, Acted}
-use Rattle.sctp_model.specs.numbers.Limits.{LEAST_WAIT}
+use Rattle.sctp_model.specs.numbers.Limits.{LEAST_WAIT, LONGEST_MESSAGE, FIRST_WAIT, LONGEST_WAIT, REPEATS, OPENING_REPEATS}
 
 -- ---- a seal that hides nothing: the numbers of the body one after the other
 
@@ -26,10 +26,10 @@ bit false = 0
 abbrev pub numbers : Body → List ℕ
 numbers b =
     b.made ∷ b.listener.port ∷ b.caller.port ∷ b.listener.tag ∷ b.caller.tag ∷ b.listener.tsn ∷ b.caller.tsn ∷ b.rwnd
-    ∷ b.to_caller ∷ b.from_caller ∷ bit b.partial ∷ bit b.interleave ∷ bit b.reset ∷ replicate 59 0
+    ∷ b.to_caller ∷ b.from_caller ∷ bit b.partial ∷ bit b.interleave ∷ bit b.reset ∷ bit b.zero_checksum ∷ replicate 58 0
 
 abbrev pub read : List ℕ → Option Body
-read (made ∷ lp ∷ cp ∷ lt ∷ ct ∷ ln ∷ cn ∷ rwnd ∷ to ∷ from ∷ p ∷ i ∷ z ∷ more) = Some (record {
+read (made ∷ lp ∷ cp ∷ lt ∷ ct ∷ ln ∷ cn ∷ rwnd ∷ to ∷ from ∷ p ∷ i ∷ z ∷ o ∷ more) = Some (record {
   made = made;
   listener = record { port = lp; tag = lt; tsn = ln };
   caller = record { port = cp; tag = ct; tsn = cn };
@@ -39,14 +39,16 @@ read (made ∷ lp ∷ cp ∷ lt ∷ ct ∷ ln ∷ cn ∷ rwnd ∷ to ∷ from �
   partial = p == 1;
   interleave = i == 1;
   reset = z == 1;
+  zero_checksum = o == 1;
 })
 read xs = None
 
 pub reads_back : (b : Body) → read (numbers b) ≡ Some b
 reads_back b =
-    ap (λ (p : Bool). Some (record b { partial = p; interleave = bit b.interleave == 1; reset = bit b.reset == 1 })) (back b.partial)
-    ∙ ap (λ (i : Bool). Some (record b { interleave = i; reset = bit b.reset == 1 })) (back b.interleave)
-    ∙ ap (λ (i : Bool). Some (record b { reset = i })) (back b.reset)
+    ap (λ (p : Bool). Some (record b { partial = p; interleave = bit b.interleave == 1; reset = bit b.reset == 1; zero_checksum = bit b.zero_checksum == 1 })) (back b.partial)
+    ∙ ap (λ (i : Bool). Some (record b { interleave = i; reset = bit b.reset == 1; zero_checksum = bit b.zero_checksum == 1 })) (back b.interleave)
+    ∙ ap (λ (i : Bool). Some (record b { reset = i; zero_checksum = bit b.zero_checksum == 1 })) (back b.reset)
+    ∙ ap (λ (i : Bool). Some (record b { zero_checksum = i })) (back b.zero_checksum)
   where
     back : (x : Bool) → (bit x == 1) ≡ x
     back true = refl
@@ -75,6 +77,22 @@ two = record {
     least_wait = LEAST_WAIT;
     congestion_control = false;
     reset = true;
+    first_wait = FIRST_WAIT;
+    longest_wait = LONGEST_WAIT;
+    repeats = REPEATS;
+    opening_repeats = OPENING_REPEATS;
+    heartbeat = None;
+    progress = false;
+    guard = false;
+    updates = false;
+    reserve = 0;
+    all_blocks = false;
+    growth = 1;
+    cubic = false;
+    longest_message = LONGEST_MESSAGE;
+    queue_bytes = None;
+    strict = false;
+    zero_checksum = false;
   };
   of_b = record {
     own_port = 0;
@@ -92,6 +110,22 @@ two = record {
     least_wait = LEAST_WAIT;
     congestion_control = false;
     reset = true;
+    first_wait = FIRST_WAIT;
+    longest_wait = LONGEST_WAIT;
+    repeats = REPEATS;
+    opening_repeats = OPENING_REPEATS;
+    heartbeat = None;
+    progress = false;
+    guard = false;
+    updates = false;
+    reserve = 0;
+    all_blocks = false;
+    growth = 1;
+    cubic = false;
+    longest_message = LONGEST_MESSAGE;
+    queue_bytes = None;
+    strict = false;
+    zero_checksum = false;
   };
   a_port = 5000;
   b_port = 5001;

@@ -5,13 +5,13 @@ use Rattle.sctp_model.specs.numbers.Limits.{REQUEST_LIMIT}
 use Rattle.sctp_model.specs.numbers.Numbers.{u32_at}
 use Rattle.sctp_model.specs.wire.Typed.{Typed}
 use Rattle.sctp_model.specs.wire.Reconfig.{OUTGOING_RESET, RECONFIG_RESPONSE, ResetResult, Performed, Denied, WrongStream, BadNumber, InProgress, reset_read, is_parameter, is_other_request, response_item, is_done_code, is_progress_code, is_number_code, ResetMeaning}
-use Rattle.sctp_model.specs.sender.Outgoing.{Outgoing, Request, LaterNumber, takes_next, is_later}
+use Rattle.sctp_model.specs.sender.Outgoing.{Outgoing, Request, LaterNumber, takes_next}
 use Rattle.sctp_model.specs.sender.SenderView.{SenderView}
-use Rattle.sctp_model.specs.sender.Resetting.{with_resets, reset_done, reset_refused, kept_asking, number_back, numbered_so, retried_in, retried, reset_answered, answered_in, is_open_number, may_ask, response_taken}
+use Rattle.sctp_model.specs.sender.Resetting.{with_resets, reset_done, reset_refused, kept_asking, number_back, numbered_so, is_past_first, retried_in, retried, reset_answered, answered_in, is_open_number, may_ask, response_taken}
 use Rattle.sctp_model.specs.receiver.Incoming.{Incoming}
 use Rattle.sctp_model.specs.receiver.ReceiverView.{ReceiverView}
 use Rattle.sctp_model.specs.receiver.ResetTaken.{names, reset_answer, is_in_turn, answer_in_turn, renumbered_by, request_taken, reset_taken, denied, with_answer, with_answers, names_anew, other_meaning}
-use Rattle.sctp_model.specs.end.EndView.{ShutdownAlarm, AckAlarm, ResetAlarm, EndView, DataAlarm, unused_timer}
+use Rattle.sctp_model.specs.end.EndView.{ShutdownAlarm, AckAlarm, ResetAlarm, EndView, DataAlarm, unused_timer, BeatAlarm, GuardAlarm}
 use Rattle.sctp_model.specs.end.Closing.{with_due}
 use Rattle.sctp_model.specs.end.Moments.{due_again}
 use Rattle.sctp_model.specs.end.Clock.{is_home, with_timer}
@@ -28,7 +28,7 @@ abbrev pub IsResetIn : ReceiverView → ReceiverView → Type 0
 IsResetIn r s = (x : Incoming) × (s ≡ record r { resets = x })
 
 answered_of : (v : SenderView) (code : ℕ) (q : Request) → IsResetOf v (reset_answered v code q)
-answered_of v code q = go (is_done_code code) (is_progress_code code) (is_number_code code && is_later q.numbering)
+answered_of v code q = go (is_done_code code) (is_progress_code code) (is_number_code code && is_past_first v q)
   where
     go : (b d w : Bool) → IsResetOf v (if b then reset_done v q else if d then kept_asking v q else if w then number_back v q else reset_refused v q)
     go true d w = ((reset_done v q).resets, refl)
@@ -86,6 +86,9 @@ pub record IsReconfigured (e t : EndView) : Type 0 where
   pub ack_timer : t.timers AckAlarm ≡ e.timers AckAlarm
   pub data_timer : t.timers DataAlarm ≡ e.timers DataAlarm
   pub pace : t.pace ≡ e.pace
+  pub beats : t.beats ≡ e.beats
+  pub beat_timer : t.timers BeatAlarm ≡ e.timers BeatAlarm
+  pub beat_due : t.due.beat ≡ e.due.beat
   pub sender : IsResetOf e.sender t.sender
   pub receiver : IsResetIn e.receiver t.receiver
 
@@ -102,6 +105,9 @@ reconfigured_same e = record {
   ack_timer = refl;
   data_timer = refl;
   pace = refl;
+  beats = refl;
+  beat_timer = refl;
+  beat_due = refl;
   sender = (e.sender.resets, refl);
   receiver = (e.receiver.resets, refl);
 }
@@ -119,6 +125,9 @@ reconfigured_on e t u a b = record {
   ack_timer = b.ack_timer ∙ a.ack_timer;
   data_timer = b.data_timer ∙ a.data_timer;
   pace = b.pace ∙ a.pace;
+  beats = b.beats ∙ a.beats;
+  beat_timer = b.beat_timer ∙ a.beat_timer;
+  beat_due = b.beat_due ∙ a.beat_due;
   sender = (b.sender.0, b.sender.1 ∙ ap (λ (v : SenderView). with_resets b.sender.0 v) a.sender.1);
   receiver = (b.receiver.0, b.receiver.1 ∙ ap (λ (r : ReceiverView). record r { resets = b.receiver.0 }) a.receiver.1);
 }
@@ -137,6 +146,9 @@ of_sender e v is = record {
   ack_timer = refl;
   data_timer = refl;
   pace = refl;
+  beats = refl;
+  beat_timer = refl;
+  beat_due = refl;
   sender = is;
   receiver = (e.receiver.resets, refl);
 }
@@ -155,6 +167,9 @@ again_same e = record {
   ack_timer = refl;
   data_timer = refl;
   pace = refl;
+  beats = refl;
+  beat_timer = refl;
+  beat_due = refl;
   sender = retried_of e.sender;
   receiver = (e.receiver.resets, refl);
 }
@@ -173,6 +188,9 @@ progress_same true e = record {
   ack_timer = refl;
   data_timer = refl;
   pace = refl;
+  beats = refl;
+  beat_timer = refl;
+  beat_due = refl;
   sender = (e.sender.resets, refl);
   receiver = (e.receiver.resets, refl);
 }
@@ -180,7 +198,7 @@ progress_same true e = record {
 asking_on_same : (e : EndView) → IsReconfigured e (asking_on e)
 asking_on_same e = go (is_some e.sender.resets.pending)
   where
-    go : (b : Bool) → IsReconfigured e (if b then e else with_timer ResetAlarm unused_timer (with_due (record e.due { request = false }) e))
+    go : (b : Bool) → IsReconfigured e (if b then e else with_timer ResetAlarm (unused_timer e.configuration.first_wait) (with_due (record e.due { request = false }) e))
     go true = reconfigured_same e
     go false = record {
       configuration = refl;
@@ -194,6 +212,9 @@ asking_on_same e = go (is_some e.sender.resets.pending)
       ack_timer = refl;
       data_timer = refl;
       pace = refl;
+      beats = refl;
+      beat_timer = refl;
+      beat_due = refl;
       sender = (e.sender.resets, refl);
       receiver = (e.receiver.resets, refl);
     }
@@ -221,6 +242,9 @@ parameter_same c e x = go (is_parameter OUTGOING_RESET 12 x) (is_parameter RECON
       ack_timer = refl;
       data_timer = refl;
       pace = refl;
+      beats = refl;
+      beat_timer = refl;
+      beat_due = refl;
       sender = (e.sender.resets, refl);
       receiver = let m = reset_read x in waiting_in e.receiver (reset_taken e.receiver c m) (answers_with e (response_item m.number (answer_in_turn e.receiver m.number (reset_answer e.receiver c m)))) (taken_in e.receiver m (names e.receiver m.streams) (names_anew e.receiver m) (reset_answer e.receiver c m));
     }
@@ -237,6 +261,9 @@ parameter_same c e x = go (is_parameter OUTGOING_RESET 12 x) (is_parameter RECON
       ack_timer = refl;
       data_timer = refl;
       pace = refl;
+      beats = refl;
+      beat_timer = refl;
+      beat_due = refl;
       sender = (e.sender.resets, refl);
       receiver = let n = u32_at x.value in waiting_in e.receiver (denied e.receiver n) (answers_with e (response_item n (answer_in_turn e.receiver n Denied))) (taken_in e.receiver (other_meaning n) (λ s. false) (λ s. false) Denied);
     }
@@ -265,6 +292,9 @@ asking_same e = go (e.terms.reset && (is_home ResetAlarm e.phase && may_ask e.se
       ack_timer = refl;
       data_timer = refl;
       pace = refl;
+      beats = refl;
+      beat_timer = refl;
+      beat_due = refl;
       sender = (_, refl);
       receiver = (e.receiver.resets, refl);
     }

@@ -10,6 +10,7 @@ use Rattle.sctp_model.specs.end.Reports.{with_causes}
 use Rattle.sctp_model.specs.end.Closing.{rested}
 use Rattle.sctp_model.specs.end.PeerFaults.{GoesOn, Ends, Replies, Note}
 use Rattle.sctp_model.specs.end.Opening.{AcceptedAck, EchoedAgain, CookieAcked}
+use Rattle.sctp_model.specs.end.Beating.{beat_heard}
 use Rattle.sctp_model.specs.end.Acting.{ReconfigComes, IsUnknown, Acts, ForwardComes, PieceComes, IsOld, SackStale, ShutdownStale, HeartbeatCounts, SackCounts, ShutdownCounts, Closes, SaysNothing, Crosses, Again, CompleteCompleted, unknown_causes, unknown_leaves}
 use Rattle.sctp_safety.proofs.machine.Reconfigured.{parameters_same}
 use Rattle.sctp_safety.proofs.machine.EndWords.{rested_cases}
@@ -59,14 +60,14 @@ unknown_never_replies e t p k f v h = go (chunk_rule k).stop h
 -- ---- every chunk
 
 pub goes_same : (e : EndView) (tag : ℕ) (x : ChunkMeaning) (y : Note) (t : EndView) → Acts e tag x (GoesOn y t) → IsSameEnd e t
-goes_same e tag (Data p) y t (PieceComes _ _ _ _ _ _ _ _ _) = record { configuration = refl; role = refl; moment = refl }
-goes_same e tag (IData p) y t (PieceComes _ _ _ _ _ _ _ _ _) = record { configuration = refl; role = refl; moment = refl }
+goes_same e tag (Data p) y t (PieceComes _ _ _ _ _ _ _ _ _ _) = record { configuration = refl; role = refl; moment = refl }
+goes_same e tag (IData p) y t (PieceComes _ _ _ _ _ _ _ _ _ _) = record { configuration = refl; role = refl; moment = refl }
 goes_same e tag (Init m) y t h = absurd (cc)
 goes_same e tag (InitAck m) y t (AcceptedAck _ _ _ _ _ _) = record { configuration = refl; role = refl; moment = refl }
 goes_same e tag (Sack s) y t (SackStale _ _) = same_end e
 goes_same e tag (Sack s) y t (SackCounts _ _) = record { configuration = refl; role = refl; moment = refl }
 goes_same e tag (Heartbeat i) y t (HeartbeatCounts _) = record { configuration = refl; role = refl; moment = refl }
-goes_same e tag (HeartbeatAck i) y t h = let q : t ≡ e = cc in subst (IsSameEnd e) (sym q) (same_end e)
+goes_same e tag (HeartbeatAck i) y t h = let q : t ≡ beat_heard e i = cc in subst (IsSameEnd e) (sym q) (record { configuration = refl; role = refl; moment = refl })
 goes_same e tag (Abort b xs) y t h = absurd (cc)
 goes_same e tag (Shutdown n) y t (ShutdownStale _ _ _ _ _) = record { configuration = refl; role = refl; moment = refl }
 goes_same e tag (Shutdown n) y t (ShutdownCounts _ _ _ _ _) = record { configuration = refl; role = refl; moment = refl }

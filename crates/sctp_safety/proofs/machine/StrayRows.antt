@@ -34,6 +34,7 @@ body = record {
   partial = true;
   interleave = true;
   reset = false;
+  zero_checksum = false;
 }
 
 -- ---- INIT

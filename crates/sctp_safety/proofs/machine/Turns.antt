@@ -7,8 +7,9 @@ use Rattle.sctp_model.specs.end.Closing.{rested}
 use Rattle.sctp_model.specs.end.PeerFaults.{GoesOn, Ends, Note}
 use Rattle.sctp_model.specs.end.Options.{STATE_COOKIE, value_of}
 use Rattle.sctp_model.specs.end.Opening.{AcceptedAck, EchoedAgain, CookieAcked, echoing}
-use Rattle.sctp_model.specs.end.Acting.{ReconfigComes, IsUnknown, IsBad, WrongKind, SackWrong, ShutdownWrong, WrongFormat, PieceEmpty, Acts, ForwardComes, PieceComes, IsOld, SackStale, ShutdownStale, HeartbeatCounts, SackCounts, ShutdownCounts, Closes, SaysNothing, Crosses, Again, AckCompletes, CompleteCompleted}
-use Rattle.sctp_model.specs.end.Building.{once_built, Slot, Puts, NoMore, NotDue, Put, IsFull, Builds, Sleeps, Waits, Calls, Echoes, Fills, EchoSlot, CookieAckSlot, HeartbeatSlot, ErrorSlot, SackSlot, ForwardSlot, AnswerSlot, RequestSlot, ShutdownSlot, ShutdownAckSlot}
+use Rattle.sctp_model.specs.end.Beating.{beat_heard}
+use Rattle.sctp_model.specs.end.Acting.{ReconfigComes, IsUnknown, IsBad, WrongKind, SackWrong, ShutdownWrong, WrongFormat, PieceEmpty, Acts, ForwardComes, PieceComes, IsOld, SackStale, ShutdownStale, HeartbeatCounts, SackCounts, ShutdownCounts, Closes, SaysNothing, Crosses, Again, AckCompletes, CompleteCompleted, Misnumbered}
+use Rattle.sctp_model.specs.end.Building.{once_built, Slot, Puts, NoMore, NotDue, Put, IsFull, Builds, Sleeps, Waits, Calls, Echoes, Fills, EchoSlot, CookieAckSlot, HeartbeatSlot, BeatSlot, ErrorSlot, SackSlot, ForwardSlot, AnswerSlot, RequestSlot, ShutdownSlot, ShutdownAckSlot}
 use Rattle.sctp_model.specs.end.Building.{EndsFull}
 use Rattle.sctp_model.specs.end.Closing.{takes_acknowledgements}
 use Rattle.sctp_model.specs.wire.Packet.{Packet}
@@ -111,14 +112,14 @@ still : (e : EndView) (x : ChunkMeaning) (t : EndView) → t.configuration ≡ e
 still e x t a b n c p = Plainly t (record { configuration = a; role = b; moment = n; terms = c; turn = subst (IsPlainTurn e.phase) p (Stays e.phase) }) (λ h. subst (λ (k : Phase). has_association k ≡ true) p h)
 
 pub goes_left : (e : EndView) (tag : ℕ) (x : ChunkMeaning) (y : Note) (t : EndView) → Acts e tag x (GoesOn y t) → IsLeft e x t
-goes_left e tag (Data p) y t (PieceComes _ _ _ _ _ _ _ _ _) = still e _ t refl refl refl refl refl
-goes_left e tag (IData p) y t (PieceComes _ _ _ _ _ _ _ _ _) = still e _ t refl refl refl refl refl
+goes_left e tag (Data p) y t (PieceComes _ _ _ _ _ _ _ _ _ _) = still e _ t refl refl refl refl refl
+goes_left e tag (IData p) y t (PieceComes _ _ _ _ _ _ _ _ _ _) = still e _ t refl refl refl refl refl
 goes_left e tag (Init m) y t h = absurd (cc)
 goes_left e tag (InitAck m) y t (AcceptedAck d cookie is tagged value fault) = Accepts m d cookie refl is value
 goes_left e tag (Sack s) y t (SackStale _ _) = still e _ t refl refl refl refl refl
 goes_left e tag (Sack s) y t (SackCounts _ _) = still e _ t refl refl refl refl refl
 goes_left e tag (Heartbeat i) y t (HeartbeatCounts _) = still e _ t refl refl refl refl refl
-goes_left e tag (HeartbeatAck i) y t h = let q : t ≡ e = cc in Plainly t (subst (IsPlain e) (sym q) (plain_same e)) (λ has. subst (λ (y : EndView). has_association y.phase ≡ true) (sym q) has)
+goes_left e tag (HeartbeatAck i) y t h = let q : t ≡ beat_heard e i = cc in Plainly t (subst (IsPlain e) (sym q) (record { configuration = refl; role = refl; moment = refl; terms = refl; turn = Stays e.phase })) (λ has. subst (λ (y : EndView). has_association y.phase ≡ true) (sym q) has)
 goes_left e tag (Abort b xs) y t h = absurd (cc)
 goes_left e tag (Shutdown n) y t (ShutdownStale u g is takes _) = Plainly t (record { configuration = refl; role = refl; moment = refl; terms = refl; turn = goes_from e u g ShutdownReceived is (hears_shutdown u g takes) }) (λ has. refl)
 goes_left e tag (Shutdown n) y t (ShutdownCounts u g is takes _) = Plainly t (record { configuration = refl; role = refl; moment = refl; terms = refl; turn = goes_from e u g ShutdownReceived is (hears_shutdown u g takes) }) (λ has. refl)
@@ -166,8 +167,10 @@ ends_plain e tag (Unknown k f v) t has (IsUnknown _ off h) = let u = unknown_end
 pub replies_plain : (e : EndView) (tag : ℕ) (x : ChunkMeaning) (t : EndView) (p : Packet) → has_association e.phase ≡ true → Acts e tag x (Replies t p) → IsPlain e t
 replies_plain e tag (Data q) t p has (PieceEmpty _ _ _ _ _) = left_closed e AbortedHere has
 replies_plain e tag (Data q) t p has (WrongFormat _ _ _ _ _ _) = left_closed e AbortedHere has
+replies_plain e tag (Data q) t p has (Misnumbered _ _ _ _ _ _ _ _ _) = left_closed e AbortedHere has
 replies_plain e tag (IData q) t p has (PieceEmpty _ _ _ _ _) = left_closed e AbortedHere has
 replies_plain e tag (IData q) t p has (WrongFormat _ _ _ _ _ _) = left_closed e AbortedHere has
+replies_plain e tag (IData q) t p has (Misnumbered _ _ _ _ _ _ _ _ _) = left_closed e AbortedHere has
 replies_plain e tag (Init m) t p has h = absurd (cc)
 replies_plain e tag (InitAck m) t p has (RefusedAck _ _ _ _ _) = left_closed e AbortedHere has
 replies_plain e tag (Sack s) t p has (SackWrong _ _ _ _ _) = left_closed e AbortedHere has
@@ -197,6 +200,7 @@ built_plain : (s : Slot) (e : EndView) → IsPlain e (once_built s e)
 built_plain EchoSlot e = record { configuration = refl; role = refl; moment = refl; terms = refl; turn = Stays e.phase }
 built_plain CookieAckSlot e = record { configuration = refl; role = refl; moment = refl; terms = refl; turn = Stays e.phase }
 built_plain HeartbeatSlot e = record { configuration = refl; role = refl; moment = refl; terms = refl; turn = Stays e.phase }
+built_plain BeatSlot e = record { configuration = refl; role = refl; moment = refl; terms = refl; turn = Stays e.phase }
 built_plain ErrorSlot e = record { configuration = refl; role = refl; moment = refl; terms = refl; turn = Stays e.phase }
 built_plain SackSlot e = record { configuration = refl; role = refl; moment = refl; terms = refl; turn = Stays e.phase }
 built_plain ForwardSlot e = record { configuration = refl; role = refl; moment = refl; terms = refl; turn = Stays e.phase }

@@ -3,8 +3,8 @@ use Rattle.std.proofs.Common.{◌≡◌, ℕ, ◌⊎◌, inl, inr, not, ◌||◌
 use Rattle.sctp_model.specs.world.Calls.{Call}
 use Rattle.sctp_model.specs.receiver.ReceiverView.{Handed}
 use Rattle.sctp_model.specs.sender.SenderView.{SenderView}
-use Rattle.sctp_model.specs.end.EndView.{Established, ShutdownPending, ShutdownSent, ShutdownReceived, ShutdownAckSent, AbortedHere, TimedOut, Phase, Idle, Listening, Calling, Echoing, Open, Over, Alarm, InitAlarm, CookieAlarm, DataAlarm, ShutdownAlarm, AckAlarm, ResetAlarm, EndView, has_association}
-use Rattle.sctp_model.specs.end.Clock.{settled, turned, is_over_at, repeats_of, closed, at_moment, with_timer}
+use Rattle.sctp_model.specs.end.EndView.{Established, ShutdownPending, ShutdownSent, ShutdownReceived, ShutdownAckSent, AbortedHere, TimedOut, Phase, Idle, Listening, Calling, Echoing, Open, Over, Alarm, InitAlarm, CookieAlarm, DataAlarm, ShutdownAlarm, AckAlarm, ResetAlarm, BeatAlarm, GuardAlarm, EndView, has_association}
+use Rattle.sctp_model.specs.end.Clock.{settled, turned, is_over_at, may_go_on, closed, at_moment, with_timer}
 use Rattle.sctp_model.specs.end.Clock.{expired_timer}
 use Rattle.sctp_model.specs.wire.Packet.{size_of_packet}
 use Rattle.sctp_model.specs.sender.Abandoning.{abandon_after, worn}
@@ -35,6 +35,8 @@ plain_again CookieAlarm e = record { configuration = refl; role = refl; moment =
 plain_again DataAlarm e = record { configuration = refl; role = refl; moment = refl; terms = refl; turn = Stays e.phase }
 plain_again ShutdownAlarm e = record { configuration = refl; role = refl; moment = refl; terms = refl; turn = Stays e.phase }
 plain_again ResetAlarm e = record { configuration = refl; role = refl; moment = refl; terms = refl; turn = Stays e.phase }
+plain_again BeatAlarm e = record { configuration = refl; role = refl; moment = refl; terms = refl; turn = Stays e.phase }
+plain_again GuardAlarm e = record { configuration = refl; role = refl; moment = refl; terms = refl; turn = Stays e.phase }
 plain_again AckAlarm e = record { configuration = refl; role = refl; moment = refl; terms = refl; turn = Stays e.phase }
 
 -- it has an association still, or a timer gave up
@@ -43,13 +45,13 @@ IsRung e = (has_association e.phase ≡ true) ⊎ (e.phase ≡ Over TimedOut)
 
 rung_plain : (b : Bool) (a : Alarm) (e : EndView) → IsRung e → IsPlain e (rung b a e)
 rung_plain false a e has = plain_same e
-rung_plain true a e has = go (nat_lt (e.timers a).repeats (repeats_of a)) has
+rung_plain true a e has = go (may_go_on a e) has
   where
-    go : (c : Bool) → IsRung e → IsPlain e (if c then due_again a (with_timer a (expired_timer (e.timers a)) e) else closed TimedOut e)
+    go : (c : Bool) → IsRung e → IsPlain e (if c then due_again a (with_timer a (expired_timer e.configuration.longest_wait (e.timers a)) e) else closed TimedOut e)
     go true h =
-        plain_on e (with_timer a (expired_timer (e.timers a)) e) (due_again a (with_timer a (expired_timer (e.timers a)) e))
+        plain_on e (with_timer a (expired_timer e.configuration.longest_wait (e.timers a)) e) (due_again a (with_timer a (expired_timer e.configuration.longest_wait (e.timers a)) e))
         (record { configuration = refl; role = refl; moment = refl; terms = refl; turn = Stays e.phase })
-        (plain_again a (with_timer a (expired_timer (e.timers a)) e))
+        (plain_again a (with_timer a (expired_timer e.configuration.longest_wait (e.timers a)) e))
     go false (inl h) = left_closed e TimedOut h
     go false (inr is) = record {
       configuration = refl;
@@ -61,7 +63,7 @@ rung_plain true a e has = go (nat_lt (e.timers a).repeats (repeats_of a)) has
 
 rung_on : (b : Bool) (a : Alarm) (e : EndView) → IsRung e → IsRung (rung b a e)
 rung_on false a e has = has
-rung_on true a e has = go (nat_lt (e.timers a).repeats (repeats_of a))
+rung_on true a e has = go (may_go_on a e)
   where
     again : (c : Alarm) (t : EndView) → IsRung t → IsRung (due_again c t)
     again InitAlarm t h = h
@@ -70,9 +72,11 @@ rung_on true a e has = go (nat_lt (e.timers a).repeats (repeats_of a))
     again ShutdownAlarm t h = h
     again AckAlarm t h = h
     again ResetAlarm t h = h
+    again BeatAlarm t h = h
+    again GuardAlarm t h = h
 
-    go : (c : Bool) → IsRung (if c then due_again a (with_timer a (expired_timer (e.timers a)) e) else closed TimedOut e)
-    go true = again a (with_timer a (expired_timer (e.timers a)) e) has
+    go : (c : Bool) → IsRung (if c then due_again a (with_timer a (expired_timer e.configuration.longest_wait (e.timers a)) e) else closed TimedOut e)
+    go true = again a (with_timer a (expired_timer e.configuration.longest_wait (e.timers a)) e) has
     go false = inr refl
 
 all_plain : (alarms : List Alarm) (e : EndView) → IsRung e → IsPlain e (rung_all alarms e)

@@ -4,7 +4,7 @@ use Rattle.sctp_model.specs.numbers.Lists.{Has, item_at}
 use Rattle.sctp_model.specs.messages.Format.{Lane}
 use Rattle.sctp_model.specs.messages.Plan.{Message, Entry, Part, End, entry_at, message_at}
 use Rattle.sctp_model.specs.messages.Pieces.{Piece}
-use Rattle.sctp_model.specs.sender.SenderView.{Queued, SenderView, fresh_sender}
+use Rattle.sctp_model.specs.sender.SenderView.{Queued, SenderView, fresh_sender, SendLimits}
 use Rattle.sctp_model.specs.messages.Forward.{Forward}
 use Rattle.sctp_model.specs.messages.Acknowledgement.{Acknowledgement}
 use Rattle.sctp_model.specs.receiver.ReceiverView.{Handed, ReceiverView, fresh_receiver, handed}
@@ -118,9 +118,9 @@ module _ (w : Way) (s : IsStart w) where
 -- ---- ends that are new
 
 -- A direction of a new sender and a new receiver, with nothing between them and nothing asked, is a start.
-pub new_ends_start : (w : Way) (initial streams fragment rwnd : ℕ) (partial : Bool) (first inbound buffer : ℕ) → w.sender ≡ fresh_sender initial streams fragment rwnd partial
-    → w.receiver ≡ fresh_receiver first inbound buffer → w.asked.calls ≡ [] → w.pieces ≡ [] → w.forwards ≡ [] → w.sacks ≡ [] → w.shutdowns ≡ [] → IsStart w
-new_ends_start w initial streams fragment rwnd partial first inbound buffer sender receiver calls pieces forwards sacks shutdowns = record {
+pub new_ends_start : (w : Way) (initial streams fragment rwnd : ℕ) (partial : Bool) (limits : SendLimits) (first inbound buffer reserve : ℕ) → w.sender ≡ fresh_sender initial streams fragment rwnd partial limits
+    → w.receiver ≡ fresh_receiver first inbound buffer reserve → w.asked.calls ≡ [] → w.pieces ≡ [] → w.forwards ≡ [] → w.sacks ≡ [] → w.shutdowns ≡ [] → IsStart w
+new_ends_start w initial streams fragment rwnd partial limits first inbound buffer reserve sender receiver calls pieces forwards sacks shutdowns = record {
   queue = ap (λ (v : SenderView). v.queue) sender;
   messages = ap (λ (v : SenderView). v.plan.messages) sender;
   entries = ap (λ (v : SenderView). v.plan.entries) sender;

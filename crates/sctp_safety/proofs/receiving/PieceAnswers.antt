@@ -47,14 +47,14 @@ module _ (f : Format) (r : ReceiverView) (c : ℕ) (p : PieceMeaning) where
       let first = row_fails (is_duplicate f r c p) Duplicate _ NoSuchStream (sym is) (λ e. cc) in
       let second = row_fails (is_ahead r c p.tsn) Ahead _ NoSuchStream first.1 (λ e. cc) in
       leb-true r.streams p.stream (row_holds (nat_le r.streams p.stream) NoSuchStream _ second.1
-      (row_lacks (is_passed f r (piece_at f r c p)) Passed _ NoSuchStream (λ e. cc) (row_lacks (is_too_much r p) NoRoom Kept NoSuchStream (λ e. cc) (λ e. cc))))
+      (row_lacks (is_passed f r (piece_at f r c p)) Passed _ NoSuchStream (λ e. cc) (row_lacks (is_too_much f r c p) NoRoom Kept NoSuchStream (λ e. cc) (λ e. cc))))
 
   pub passed_is : Passed ≡ answer_to f r c p → is_passed f r (piece_at f r c p) ≡ true
   passed_is is =
       let first = row_fails (is_duplicate f r c p) Duplicate _ Passed (sym is) (λ e. cc) in
       let second = row_fails (is_ahead r c p.tsn) Ahead _ Passed first.1 (λ e. cc) in
       let third = row_fails (nat_le r.streams p.stream) NoSuchStream _ Passed second.1 (λ e. cc) in
-      row_holds (is_passed f r (piece_at f r c p)) Passed _ third.1 (row_lacks (is_too_much r p) NoRoom Kept Passed (λ e. cc) (λ e. cc))
+      row_holds (is_passed f r (piece_at f r c p)) Passed _ third.1 (row_lacks (is_too_much f r c p) NoRoom Kept Passed (λ e. cc) (λ e. cc))
 
 -- ---- a chunk that isn't wanted
 

@@ -1,6 +1,5 @@
 -- The SACK that a receiver makes may be put between the endpoints, and taking a message is a move.
 use Rattle.std.proofs.Common.{◌≡◌, ℕ, zero, suc, List, [], ◌∷◌, take, Some, None, inl, inr, refl, sym, subst, ap}
-use Rattle.sctp_model.specs.numbers.Limits.{BLOCK_LIMIT}
 use Rattle.sctp_model.specs.numbers.Lists.{Has}
 use Rattle.sctp_model.specs.wire.Chunk.{BlockMeaning, SackMeaning}
 use Rattle.sctp_model.specs.messages.Acknowledgement.{Acknowledgement, IsRun}
@@ -19,7 +18,7 @@ among_all (suc n) (y ∷ xs) x (inl e) = inl e
 among_all (suc n) (y ∷ xs) x (inr there) = inr (among_all n xs x there)
 
 pub sack_made_is_moves : SackMadeIsMoves
-sack_made_is_moves w s made = record {
+sack_made_is_moves w most s made = record {
   sack = sack;
   of = record { cumulative = ap (λ (z : SackMeaning). z.cumulative) made.is; blocks = refl };
   cumulative = made.cumulative;
@@ -31,8 +30,8 @@ sack_made_is_moves w s made = record {
 
     runs : (b : BlockMeaning) → Has s.blocks b → IsRun w.receiver made.c b
     runs b there =
-        let lowest : s.blocks ≡ take BLOCK_LIMIT made.runs = ap (λ (z : SackMeaning). z.blocks) made.is in
-        made.all.runs b (among_all BLOCK_LIMIT made.runs b (subst (λ (bs : List BlockMeaning). Has bs b) lowest there))
+        let lowest : s.blocks ≡ take most made.runs = ap (λ (z : SackMeaning). z.blocks) made.is in
+        made.all.runs b (among_all most made.runs b (subst (λ (bs : List BlockMeaning). Has bs b) lowest there))
 
 pub take_is_moves : TakeIsMoves
 take_is_moves w s None t idle (none, e) = subst (IsReceived w) (sym e) (record { leads = ([], refl); idle = idle; initial = refl; streams = refl; buffer = refl })

@@ -24,7 +24,8 @@ use Rattle.sctp_model.specs.end.EndView.{Draw, Ended, Aborted, AbortedHere, Comp
 use Rattle.sctp_model.specs.end.Clock.{closed, with_timer}
 use Rattle.sctp_model.specs.end.PeerFaults.{GoesOn, Ends, Replies, Note}
 use Rattle.sctp_model.specs.end.Opening.{AcceptedAck, RefusedAck, EchoedAgain, CookieAcked}
-use Rattle.sctp_model.specs.end.Acting.{ReconfigComes, IsUnknown, Acts, PieceEmpty, WrongFormat, ForwardComes, PieceComes, WrongKind, IsBad, IsOld, SackStale, ShutdownStale, SackWrong, ShutdownWrong, HeartbeatCounts, SackCounts, ShutdownCounts, Closes, SaysNothing, Crosses, Again, AckCompletes, CompleteCompleted}
+use Rattle.sctp_model.specs.end.Beating.{beat_heard}
+use Rattle.sctp_model.specs.end.Acting.{ReconfigComes, IsUnknown, Acts, PieceEmpty, WrongFormat, ForwardComes, PieceComes, WrongKind, IsBad, IsOld, SackStale, ShutdownStale, SackWrong, ShutdownWrong, HeartbeatCounts, SackCounts, ShutdownCounts, Closes, SaysNothing, Crosses, Again, AckCompletes, CompleteCompleted, Misnumbered}
 use Rattle.sctp_model.specs.end.Arriving.{Notes, acknowledges, packet_ended, delays, kept_going}
 use Rattle.sctp_safety.specs.States.{has_agreed}
 use Rattle.sctp_safety.proofs.machine.EndWords.{ended_cases}
@@ -126,9 +127,9 @@ module _ (p : EndView) (u v : Asked) (out back : List Dated) (many : ℕ) where
   asking_on_still : (e : EndView) → Met e → Met (asking_on e)
   asking_on_still e m = go (is_some e.sender.resets.pending)
     where
-      go : (b : Bool) → Met (if b then e else with_timer ResetAlarm unused_timer (with_due (record e.due { request = false }) e))
+      go : (b : Bool) → Met (if b then e else with_timer ResetAlarm (unused_timer e.configuration.first_wait) (with_due (record e.due { request = false }) e))
       go true = m
-      go false = still e (with_timer ResetAlarm unused_timer (with_due (record e.due { request = false }) e)) m (record { terms = refl; sender = refl; receiver = refl; moment = refl }) m.met.phase
+      go false = still e (with_timer ResetAlarm (unused_timer e.configuration.first_wait) (with_due (record e.due { request = false }) e)) m (record { terms = refl; sender = refl; receiver = refl; moment = refl }) m.met.phase
 
   by_response : (e : EndView) (x : Typed) → Met e → IsAnsweredBy p.receiver.initial p.receiver x → Met (response_heard e (u32_at x.value) (u32_at (drop 4 x.value)))
   by_response e x m answer =
@@ -166,9 +167,9 @@ module _ (p : EndView) (u v : Asked) (out back : List Dated) (many : ℕ) where
   -- ---- a chunk after which the packet goes on
 
   pub goes : (e : EndView) (tag : ℕ) (x : ChunkMeaning) (y : Note) (t : EndView) → Comes p many back x → Met e → Acts e tag x (GoesOn y t) → Met t
-  goes e tag (Data d) y t has m (PieceComes k g o r is hears some same taken) =
+  goes e tag (Data d) y t has m (PieceComes k g o r is hears some same taken right) =
       still (record e { receiver = r }) t (by_data e d o r m has taken) (record { terms = refl; sender = refl; receiver = refl; moment = refl }) m.met.phase
-  goes e tag (IData d) y t has m (PieceComes k g o r is hears some same taken) =
+  goes e tag (IData d) y t has m (PieceComes k g o r is hears some same taken right) =
       still (record e { receiver = r }) t (by_i_data e d o r m has taken) (record { terms = refl; sender = refl; receiver = refl; moment = refl }) m.met.phase
   goes e tag (Init i) y t has m h = absurd (cc)
   goes e tag (InitAck i) y t has m (AcceptedAck d cookie is tagged value fault) = absurd (not_calling e.phase d is m.met.phase)
@@ -180,7 +181,7 @@ module _ (p : EndView) (u v : Asked) (out back : List Dated) (many : ℕ) where
       e.pace e.moment e.sender))
       (record { terms = refl; sender = refl; receiver = refl; moment = refl }) m.met.phase
   goes e tag (Heartbeat i) y t has m (HeartbeatCounts hears) = still e t m (record { terms = refl; sender = refl; receiver = refl; moment = refl }) m.met.phase
-  goes e tag (HeartbeatAck i) y t has m h = let q : t ≡ e = cc in subst Met (sym q) m
+  goes e tag (HeartbeatAck i) y t has m h = let q : t ≡ beat_heard e i = cc in subst Met (sym q) (still e (beat_heard e i) m (record { terms = refl; sender = refl; receiver = refl; moment = refl }) m.met.phase)
   goes e tag (Abort b xs) y t has m h = absurd (cc)
   goes e tag (Shutdown n) y t has m (ShutdownStale k g is hears fault) = still e t m (record { terms = refl; sender = refl; receiver = refl; moment = refl }) refl
   goes e tag (Shutdown n) y t has m (ShutdownCounts k g is hears none) =
@@ -237,8 +238,10 @@ module _ (p : EndView) (u v : Asked) (out back : List Dated) (many : ℕ) where
   pub replies : (e : EndView) (tag : ℕ) (x : ChunkMeaning) (t : EndView) (r : Packet) → Met e → Acts e tag x (Replies t r) → Met t
   replies e tag (Data d) t r m (PieceEmpty _ _ _ _ _) = over e AbortedHere m
   replies e tag (Data d) t r m (WrongFormat _ _ _ _ _ _) = over e AbortedHere m
+  replies e tag (Data d) t r m (Misnumbered _ _ _ _ _ _ _ _ _) = over e AbortedHere m
   replies e tag (IData d) t r m (PieceEmpty _ _ _ _ _) = over e AbortedHere m
   replies e tag (IData d) t r m (WrongFormat _ _ _ _ _ _) = over e AbortedHere m
+  replies e tag (IData d) t r m (Misnumbered _ _ _ _ _ _ _ _ _) = over e AbortedHere m
   replies e tag (Init i) t r m h = absurd (cc)
   replies e tag (InitAck i) t r m (RefusedAck _ _ _ _ _) = over e AbortedHere m
   replies e tag (Sack s) t r m (SackWrong _ _ _ _ _) = over e AbortedHere m

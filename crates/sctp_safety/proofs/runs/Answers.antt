@@ -7,7 +7,7 @@ use Rattle.sctp_model.specs.end.EndView.{Draw, EndView}
 use Rattle.sctp_model.specs.end.PeerFaults.{TAG, STATE, Replies, packet_to, abort_for, Unnoted}
 use Rattle.sctp_model.specs.end.Reports.{item, INVALID_PARAMETER}
 use Rattle.sctp_model.specs.end.Opening.{RefusedAck, CookieRead, CookieOpens, CookieLate, Strange, cookie_read, has_no_stream, init_ack}
-use Rattle.sctp_model.specs.end.Acting.{IsUnknown, Acts, PieceEmpty, WrongFormat, WrongKind, IsBad, SackWrong, ShutdownWrong, AckCompletes}
+use Rattle.sctp_model.specs.end.Acting.{IsUnknown, Acts, PieceEmpty, WrongFormat, WrongKind, IsBad, SackWrong, ShutdownWrong, AckCompletes, Misnumbered}
 use Rattle.sctp_model.specs.end.Strays.{Verdict, Dropped, Answer, holds_abort, listens, init_verdict, cookie_verdict, echo_verdict, first_verdict, chunks_verdict}
 use Rattle.sctp_model.specs.end.Arriving.{Arrives, Elsewhere, NotOurs, Stray, CookieBegins, Heard, noted, no_notes}
 use Rattle.sctp_safety.proofs.machine.Sides.{unknown_never_replies}
@@ -27,8 +27,10 @@ OpensOrEnds v = OfAnswer (λ r. AreOpening r.chunks) v
 pub reply_opens : (e : EndView) (tag : ℕ) (x : ChunkMeaning) (t : EndView) (r : Packet) → Acts e tag x (Replies t r) → AreOpening r.chunks
 reply_opens e tag (Data d) t r (PieceEmpty _ _ _ _ _) = one_opening _ refl
 reply_opens e tag (Data d) t r (WrongFormat _ _ _ _ _ _) = one_opening _ refl
+reply_opens e tag (Data d) t r (Misnumbered _ _ _ _ _ _ _ _ _) = one_opening _ refl
 reply_opens e tag (IData d) t r (PieceEmpty _ _ _ _ _) = one_opening _ refl
 reply_opens e tag (IData d) t r (WrongFormat _ _ _ _ _ _) = one_opening _ refl
+reply_opens e tag (IData d) t r (Misnumbered _ _ _ _ _ _ _ _ _) = one_opening _ refl
 reply_opens e tag (Init i) t r h = absurd (cc)
 reply_opens e tag (InitAck i) t r (RefusedAck _ _ _ _ _) = one_opening _ refl
 reply_opens e tag (Sack s) t r (SackWrong _ _ _ _ _) = one_opening _ refl

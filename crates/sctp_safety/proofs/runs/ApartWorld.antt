@@ -1,5 +1,5 @@
 -- A world in which the two endpoints are apart: the listener listens, the caller isn't open, nothing was said of a direction.
-use Rattle.std.proofs.Common.{◌≡◌, ℕ, ◌<◌, min, nat_le, Bool, true, false, List, [], ◌∷◌, ◌++◌, Option, Some, None, inl, inr, refl, sym, subst, ap, arith, ◌⊎◌, ◌∙◌, if◌then◌else◌, max}
+use Rattle.std.proofs.Common.{◌≡◌, ℕ, ◌-◌, ◌<◌, min, nat_le, Bool, true, false, List, [], ◌∷◌, ◌++◌, Option, Some, None, inl, inr, refl, sym, subst, ap, arith, ◌⊎◌, ◌∙◌, if◌then◌else◌, max}
 use Rattle.sctp_model.specs.numbers.Lists.{Has}
 use Rattle.sctp_model.specs.wire.Chunk.{ChunkMeaning}
 use Rattle.sctp_model.specs.wire.Packet.{Packet, size_of_packet}
@@ -215,6 +215,7 @@ opened_agree s w x y c like = record {
   interleave = like.interleave;
   partial = like.partial;
   reset = like.reset;
+  zero_checksum = like.zero_checksum;
   some_streams = (some, some);
 }
   where
@@ -240,7 +241,7 @@ opened_meet s d w x y c like k = record {
   closed = refl;
   met = ends_meet (opened w.a.configuration x y) (opened w.b.configuration y x) (asked_at w A) (asked_at w B) (dated_bag d w A) (dated_bag d w B)
       (k.calls A) (k.calls B)
-      (record { rwnd = w.a.configuration.buffer; sender = refl; receiver = refl }) (record { rwnd = w.b.configuration.buffer; sender = refl; receiver = refl })
+      (record { rwnd = w.a.configuration.buffer - w.a.configuration.reserve; sender = refl; receiver = refl }) (record { rwnd = w.b.configuration.buffer - w.b.configuration.reserve; sender = refl; receiver = refl })
       (opened_agree s w x y c like) refl refl (omega arith) (omega arith) (some_fragment s w A c) (some_fragment s w B c) (dated_opening d w A k) (dated_opening d w B k)
       (opened_unclosed w.a.configuration x y) (opened_unclosed w.b.configuration y x);
 }

@@ -5,20 +5,21 @@ use Rattle.std.specs.List.{list_any}
 use Rattle.std.proofs.lemmas.Bool.{cases_lt, and_parts, or_parts, or_cases}
 use Rattle.std.proofs.lemmas.Bool.Decides.{nat_tests}
 use Rattle.sctp_model.specs.numbers.Limits.{STREAM_LIMIT, REQUEST_LIMIT, RESETS_AT_ONCE}
-use Rattle.sctp_model.specs.numbers.Lists.{Has, at}
+use Rattle.sctp_model.specs.numbers.Lists.{Has, AreInOrder, at}
 use Rattle.sctp_model.specs.numbers.Numbers.{u32_at}
 use Rattle.sctp_model.specs.numbers.Serial.{tsn}
 use Rattle.sctp_model.specs.wire.Typed.{Typed}
 use Rattle.sctp_model.specs.wire.Reconfig.{ResetResult, Performed, Denied, WrongStream, BadNumber, InProgress, result_code, is_done_code, is_progress_code, is_number_code}
 use Rattle.sctp_model.specs.messages.Format.{Format, Lane}
 use Rattle.sctp_model.specs.messages.Plan.{Entry, Part, End, entry_at, IsOf}
-use Rattle.sctp_model.specs.sender.Outgoing.{Sending, Sends, Resets, Refuses, is_sending, is_resetting, lists, Numbering, FirstNumber, NextNumber, LaterNumber, takes_next, is_later, Request, Outgoing}
+use Rattle.sctp_model.specs.sender.Outgoing.{Sending, Sends, Resets, Refuses, is_sending, is_resetting, lists, are_listed, Numbering, FirstNumber, NextNumber, LaterNumber, takes_next, Request, Outgoing}
 use Rattle.sctp_model.specs.sender.SenderView.{SenderView}
 use Rattle.sctp_model.specs.sender.Words.{count_up}
 use Rattle.sctp_model.specs.sender.Entries.{entry_lane, continued}
 use Rattle.sctp_model.specs.sender.Assigning.{is_on}
-use Rattle.sctp_model.specs.sender.Resetting.{with_resets, resetting, has_past, is_still_on, is_ready, ready, has_stream, may_ask, was_said, first_twice, named_next, next_request, asked, numbered_so, retried_in, retried, rebased, reset_done, reset_refused, kept_asking, number_back, answered_in, is_open_number, response_taken}
+use Rattle.sctp_model.specs.sender.Resetting.{with_resets, resetting, has_past, is_still_on, is_ready, ready, has_stream, may_ask, was_said, first_twice, named_next, next_request, asked, numbered_so, retried_in, retried, rebased, reset_done, reset_refused, kept_asking, is_past_first, number_back, answered_in, is_open_number, response_taken}
 use Rattle.sctp_model.specs.sender.Reached.{Rebases}
+use Rattle.sctp_model.specs.receiver.Incoming.{Waited}
 use Rattle.sctp_model.specs.receiver.ReceiverView.{ReceiverView}
 use Rattle.sctp_model.specs.world.Calls.{Asked}
 use Rattle.sctp_model.proofs.sender.PointLaws.{get-drop}
@@ -31,7 +32,7 @@ use Rattle.sctp_safety.proofs.runs.Dates.{Dated}
 use Rattle.sctp_safety.proofs.runs.Direction.{way_of, Readably, Askedly, Direction, more_same, said_later}
 use Rattle.sctp_safety.proofs.runs.Sending.{good_here}
 use Rattle.sctp_safety.proofs.runs.StillStreams.{IsOld}
-use Rattle.sctp_safety.proofs.runs.ResetFacts.{IsAnsweredBy, IsOpen, AreEven, IsKept, AreInStep, one_number, IsNotedDone}
+use Rattle.sctp_safety.proofs.runs.ResetFacts.{IsAnsweredBy, IsOpen, AreEven, IsKept, SaysSame, IsOfLast, last_sent, AreInStep, one_number, noted_done, IsNotedDone, IsNoted}
 
 -- ---- a sender that knows something else of resets
 
@@ -102,6 +103,53 @@ off_of false h = refl
 none_of : {A : Type 0} (o : Option A) → is_some o ≡ false → o ≡ None
 none_of None h = refl
 none_of (Some x) h = absurd (cc)
+
+-- ---- rising numbers
+
+abbrev IsRising : List ℕ → Type 0
+IsRising xs = AreInOrder (λ (x y : ℕ). x < y) xs
+
+up_from : (i n y : ℕ) → Has (count_up i n) y → i ≤ y
+up_from i zero y h = absurd h
+up_from i (suc n) y (inl e) = omega (arith, e)
+up_from i (suc n) y (inr h) = let k = up_from (suc i) n y h in omega (arith, k)
+
+rising_up : (i n : ℕ) → IsRising (count_up i n)
+rising_up i zero = tt
+rising_up i (suc n) = (λ y h. let k = up_from (suc i) n y h in omega (arith, k), rising_up (suc i) n)
+
+rising_filter : (test : ℕ → Bool) (xs : List ℕ) → IsRising xs → IsRising (filter test xs)
+rising_filter test [] h = tt
+rising_filter test (x ∷ xs) (first, more) = go (test x) (rising_filter test xs more)
+  where
+    go : (b : Bool) → IsRising (filter test xs) → IsRising (if b then x ∷ filter test xs else filter test xs)
+    go true rest = (λ y has. first y (Has-filtered test xs y has), rest)
+    go false rest = rest
+
+rising_take : (k : ℕ) (xs : List ℕ) → IsRising xs → IsRising (take k xs)
+rising_take zero xs h = tt
+rising_take (suc k) [] h = tt
+rising_take (suc k) (x ∷ xs) (first, more) = (λ y has. first y (has_take k xs y has), rising_take k xs more)
+
+-- the first of them twice is another list
+twice_is_other : (xs : List ℕ) → 0 < length xs → IsRising xs → first_twice xs ≡ xs → ⊥
+twice_is_other [] some rises same = omega (arith, some)
+twice_is_other (x ∷ xs) some (first, more) same = by_limit RESETS_AT_ONCE (omega arith) same
+  where
+    by_rest : (k : ℕ) (ys : List ℕ) → ((y : ℕ) → Has ys y → x < y) → x ∷ take k ys ≡ ys → ⊥
+    by_rest k [] above e = cc e
+    by_rest k (y ∷ ys) above e = let one : x ≡ y = cc e in let lt = above y (inl refl) in omega (arith, one, lt)
+
+    tail_is : (ys zs : List ℕ) → x ∷ ys ≡ x ∷ zs → ys ≡ zs
+    tail_is ys zs e = cc e
+
+    by_one : (k : ℕ) → 0 < k → take k (x ∷ xs) ≡ xs → ⊥
+    by_one zero none e = omega (arith, none)
+    by_one (suc k) more_than e = by_rest k xs first e
+
+    by_limit : (k : ℕ) → 1 < k → take k (x ∷ x ∷ xs) ≡ x ∷ xs → ⊥
+    by_limit zero none e = omega (arith, none)
+    by_limit (suc k) above e = by_one k (omega (arith, above)) (tail_is (take k (x ∷ xs)) xs e)
 
 -- ---- the request
 
@@ -209,6 +257,60 @@ module _ (f : Format) (n : ℕ) (a : SenderView) (u : Asked) (r : ReceiverView) 
   first_is : (x : Request) → Some q ≡ Some x → suc a.resets.made ≡ x.first
   first_is x some = let same : q ≡ x = cc in ap (λ (y : Request). y.first) same
 
+  -- It says something else than the last one, of which the receiver may know.
+  listed_same : (xs : List ℕ) → are_listed xs xs ≡ true
+  listed_same [] = refl
+  listed_same (x ∷ xs) = let number : (x == x) ≡ true = grind (arith, nat_tests) in let more = listed_same xs in rw (number, more) refl
+
+  listed_is : (xs ys : List ℕ) → are_listed xs ys ≡ true → xs ≡ ys
+  listed_is [] [] on = refl
+  listed_is (x ∷ xs) (y ∷ ys) on =
+      let both = and_parts (x == y) (are_listed xs ys) on in
+      ap (λ (z : ℕ). z ∷ xs) (eqb-true x y both.0) ∙ ap (λ (zs : List ℕ). y ∷ zs) (listed_is xs ys both.1)
+  listed_is (x ∷ xs) [] on = absurd (cc)
+  listed_is [] (y ∷ ys) on = absurd (cc)
+
+  ready_rises : IsRising (ready a)
+  ready_rises = rising_take RESETS_AT_ONCE (filter (is_ready a) (count_up 0 (min a.streams STREAM_LIMIT))) (rising_filter (is_ready a) (count_up 0 (min a.streams STREAM_LIMIT)) (rising_up 0 (min a.streams STREAM_LIMIT)))
+
+  names_else : (l : Request) (b : Bool) → ((tsn a.initial l.last == tsn a.initial (length a.plan.entries)) && are_listed l.streams (ready a)) ≡ b →
+      tsn a.initial l.last ≡ tsn a.initial (length a.plan.entries) → l.streams ≡ (if b then first_twice (ready a) else ready a) → ⊥
+  names_else l true is last streams =
+      let one = listed_is l.streams (ready a) (and_parts (tsn a.initial l.last == tsn a.initial (length a.plan.entries)) (are_listed l.streams (ready a)) is).1 in
+      twice_is_other (ready a) (let h = rest.0 in grind (arith, nat_tests, h)) ready_rises (sym streams ∙ one)
+  names_else l false is last streams =
+      let number : (tsn a.initial l.last == tsn a.initial (length a.plan.entries)) ≡ true = grind (arith, nat_tests, last) in
+      let listed : are_listed l.streams (ready a) ≡ true = subst (λ (xs : List ℕ). are_listed xs (ready a) ≡ true) (sym streams) (listed_same (ready a)) in
+      let on : ((tsn a.initial l.last == tsn a.initial (length a.plan.entries)) && are_listed l.streams (ready a)) ≡ true = rw (number, listed) refl in
+      cc (on, is)
+
+  no_other : (w : Waited) → r.resets.waited ≡ Some w → SaysSame r.initial w q → ⊥
+  no_other w is same = other (d.step.waited w is)
+    where
+      other : IsOfLast a r w → ⊥
+      other k =
+          let old = k.taken (let h = d.step.last k.request k.last in let e = made in omega (arith, h, e)) in
+          names_else k.request (was_said a (Some k.request) (ready a)) refl
+          (ap (λ (i : ℕ). tsn i k.request.last) (sym d.initial) ∙ sym old.0 ∙ same.0 ∙ ap (λ (i : ℕ). tsn i (length a.plan.entries)) d.initial)
+          (sym old.1 ∙ same.1 ∙ ap (λ (o : Option Request). if was_said a o (ready a) then first_twice (ready a) else ready a) k.last)
+
+  says_else : (w : Waited) → r.resets.waited ≡ Some w → IsOfLast (asked a) r w
+  says_else w is = record {
+    request = q;
+    last = refl;
+    taken = λ le. let h = made in absurd (omega (arith, h, le));
+    new = λ lt same. no_other w is same;
+  }
+
+  -- So what is known of the last one isn't of it.
+  pub asked_unnoted : (s : ℕ) → IsNoted (asked a) r s → ⊥
+  asked_unnoted s k = elim k.done [
+    | inl done ↦
+        let same : q ≡ k.request = let w = k.waits in cc w in
+        no_other (noted_done r.initial k.request) done (ap (λ (x : Request). tsn r.initial x.last) (sym same), ap (λ (x : Request). x.streams) (sym same))
+    | inr never ↦ let h = made in let e = never.2 in omega (arith, h, e)
+  ]
+
   step : AreInStep f (asked a) r
   step = record {
     few = let h = rest.1 in grind (arith, nat_tests, h);
@@ -221,6 +323,9 @@ module _ (f : Format) (n : ℕ) (a : SenderView) (u : Asked) (r : ReceiverView) 
     kept = λ x some next. let same : q ≡ x = cc in let is : FirstNumber ≡ NextNumber = ap (λ (y : Request). y.numbering) same ∙ next in absurd (cc);
     waiting = λ x some. let same : q ≡ x = cc in subst (IsOpen (asked a)) same is_open;
     bases = inl (even, λ x some le done. let h = made in let same : suc a.resets.made ≡ x.first = first_is x some in absurd (omega (arith, h, le, same)));
+    last = λ x is. let e = first_is x is in omega (arith, e);
+    said = λ x some. let same : q ≡ x = cc in subst (λ (y : Request). (asked a).resets.last_made ≡ Some (record y { numbering = FirstNumber })) same refl;
+    waited = says_else;
     old = λ l k below. let o = d.step.old l k below in record { there = o.there; closed = o.closed; upto = o.upto };
     answers = d.step.answers;
     typed = d.step.typed;
@@ -266,6 +371,9 @@ module _ (f : Format) (n : ℕ) (a : SenderView) (u : Asked) (r : ReceiverView) 
       | inl both ↦ inl (both.0, both.1)
       | inr on ↦ inr (record { request = on.request; waits = on.waits; taken = on.taken; done = on.done; streams = on.streams; reached = on.reached; bases = on.bases; noted = on.noted })
     ];
+    last = d.step.last;
+    said = d.step.said;
+    waited = λ w is. last_sent a (resetting a t) r w refl (d.step.waited w is);
     old = d.step.old;
     answers = d.step.answers;
     typed = d.step.typed;
@@ -345,6 +453,9 @@ module _ (f : Format) (n : ℕ) (a : SenderView) (u : Asked) (r : ReceiverView) 
         λ x some. absurd (cc),
       )
     ];
+    last = d.step.last;
+    said = λ x some. absurd (cc);
+    waited = λ w is. last_sent a (reset_done a q) r w refl (d.step.waited w is);
     old = λ l k below. let o = done_old l k below in record { there = o.there; closed = o.closed; upto = o.upto };
     answers = d.step.answers;
     typed = d.step.typed;
@@ -368,6 +479,9 @@ module _ (f : Format) (n : ℕ) (a : SenderView) (u : Asked) (r : ReceiverView) 
       | inl both ↦ inl (both.0, λ x some. absurd (cc))
       | inr on ↦ absurd (elim on.done [ inl is ↦ undone is | inr is ↦ over is ])
     ];
+    last = d.step.last;
+    said = λ x some. absurd (cc);
+    waited = λ w is. last_sent a (reset_refused a q) r w refl (d.step.waited w is);
     old = λ l k below. let o = d.step.old l k below in record { there = o.there; closed = o.closed; upto = o.upto };
     answers = d.step.answers;
     typed = d.step.typed;
@@ -430,6 +544,9 @@ module _ (f : Format) (n : ℕ) (a : SenderView) (u : Asked) (r : ReceiverView) 
         noted = still_noted on.request on.noted;
       })
     ];
+    last = λ y is. let k = d.step.last y is in omega (arith, k, more);
+    said = λ y some. d.step.said q waits ∙ ap (λ (z : Request). Some (record z { numbering = FirstNumber })) (is_it y some);
+    waited = λ w is. last_sent a (numbered_so a made x q) r w refl (d.step.waited w is);
     old = λ l k below. let o = d.step.old l k below in record { there = o.there; closed = o.closed; upto = o.upto };
     answers = d.step.answers;
     typed = d.step.typed;
@@ -514,12 +631,27 @@ module _ (f : Format) (n : ℕ) (a : SenderView) (u : Asked) (r : ReceiverView) 
         omega (arith, none, some, made, all)
   ]
 
+  -- it is done: that is noted
+  pub done_noted : (q : Request) → a.resets.pending ≡ Some q → is_open_number a response_number ≡ true → is_done_code response_code ≡ true → (s : ℕ) → lists q.streams s ≡ true → IsNoted a r s
+  done_noted q waits on done s listed = elim d.step.bases [
+    | inl both ↦ absurd (both.1 q waits (let m = (d.step.waiting q waits).made in let l = last.0 in omega (arith, m, l)) (elim (h.code last.1) [
+      | inl was ↦ absurd (progress_not_done response_code was.0 done)
+      | inr is ↦ done_is r.resets.result (subst (λ (c : ℕ). is_done_code c ≡ true) is done)
+    ]))
+    | inr ahead ↦
+        let same : ahead.request ≡ q = let w = ahead.waits in cc (w, waits) in
+        record { request = ahead.request; waits = ahead.waits; named = subst (λ (y : Request). lists y.streams s ≡ true) (sym same) listed; there = ahead.streams; done = ahead.noted }
+  ]
+    where
+      last : (r.resets.taken ≡ a.resets.made) × (h.number ≡ r.resets.taken)
+      last = open_last on
+
   -- whatever it says (RFC 6525, 5.2.7)
   pub after_response : Direction f n (response_taken a (u32_at x.value) (u32_at (drop 4 x.value))) u r out back
   after_response = by_number (is_open_number a response_number) refl a.resets.pending refl
     where
       by_code : (q : Request) → a.resets.pending ≡ Some q → is_open_number a response_number ≡ true → (b p w : Bool) → is_done_code response_code ≡ b → is_progress_code response_code ≡ p →
-          (is_number_code response_code && is_later q.numbering) ≡ w →
+          (is_number_code response_code && is_past_first a q) ≡ w →
           Direction f n (if b then reset_done a q else if p then kept_asking a q else if w then number_back a q else reset_refused a q) u r out back
       by_code q waits on true p w done progress other = let last = open_last on in after_done f n a u r out back d q waits last.0 (elim (h.code last.1) [
         | inl was ↦ absurd (progress_not_done response_code was.0 done)
@@ -528,7 +660,7 @@ module _ (f : Format) (n : ℕ) (a : SenderView) (u : Asked) (r : ReceiverView) 
       by_code q waits on false true w done progress other =
           after_numbered f n a u r out back d q waits (progress_kept on progress) a.resets.made NextNumber (omega arith) (omega arith) d.step.few (λ e. refl)
       by_code q waits on false false true done progress other =
-          absurd (never_bad_number q waits on progress (and_parts (is_number_code response_code) (is_later q.numbering) other).0)
+          absurd (never_bad_number q waits on progress (and_parts (is_number_code response_code) (is_past_first a q) other).0)
       by_code q waits on false false false done progress other = let last = open_last on in elim (h.code last.1) [
         | inl was ↦ absurd (let p = was.0 in cc (p, progress))
         | inr is ↦ after_refused f n a u r out back d q waits last.0
@@ -539,4 +671,4 @@ module _ (f : Format) (n : ℕ) (a : SenderView) (u : Asked) (r : ReceiverView) 
       by_number : (b : Bool) → is_open_number a response_number ≡ b → (o : Option Request) → a.resets.pending ≡ o → Direction f n (if b then answered_in a response_code o else a) u r out back
       by_number false off o is = d
       by_number true on None is = d
-      by_number true on (Some q) is = by_code q is on (is_done_code response_code) (is_progress_code response_code) (is_number_code response_code && is_later q.numbering) refl refl refl
+      by_number true on (Some q) is = by_code q is on (is_done_code response_code) (is_progress_code response_code) (is_number_code response_code && is_past_first a q) refl refl refl

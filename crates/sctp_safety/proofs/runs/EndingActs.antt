@@ -11,7 +11,8 @@ use Rattle.sctp_model.specs.end.Clock.{is_home, closed}
 use Rattle.sctp_model.specs.end.Closing.{hears, takes_acknowledgements, awaits_ack, awaits_complete, answers_shutdown}
 use Rattle.sctp_model.specs.end.PeerFaults.{GoesOn, Ends, Replies, Note}
 use Rattle.sctp_model.specs.end.Opening.{AcceptedAck, RefusedAck, EchoedAgain, CookieAcked}
-use Rattle.sctp_model.specs.end.Acting.{ReconfigComes, IsUnknown, Acts, PieceEmpty, WrongFormat, ForwardComes, PieceComes, WrongKind, IsBad, IsOld, SackStale, ShutdownStale, SackWrong, ShutdownWrong, HeartbeatCounts, SackCounts, ShutdownCounts, Closes, SaysNothing, Crosses, Again, AckCompletes, CompleteCompleted, shutdown_counted}
+use Rattle.sctp_model.specs.end.Beating.{beat_heard}
+use Rattle.sctp_model.specs.end.Acting.{ReconfigComes, IsUnknown, Acts, PieceEmpty, WrongFormat, ForwardComes, PieceComes, WrongKind, IsBad, IsOld, SackStale, ShutdownStale, SackWrong, ShutdownWrong, HeartbeatCounts, SackCounts, ShutdownCounts, Closes, SaysNothing, Crosses, Again, AckCompletes, CompleteCompleted, shutdown_counted, Misnumbered}
 use Rattle.sctp_model.specs.end.Arriving.{Notes, acknowledges, packet_ended, delays, kept_going}
 use Rattle.sctp_safety.specs.States.{has_agreed}
 use Rattle.sctp_safety.proofs.machine.Reconfigured.{parameters_same}
@@ -100,14 +101,14 @@ module _ (p : EndView) (out back : List ChunkMeaning) where
       awaits = subst (λ (h : Phase). hears awaits_ack h ≡ true) (sym is) refl
 
   pub goes : (e : EndView) (tag : ℕ) (x : ChunkMeaning) (y : Note) (t : EndView) → Has back x → has_agreed e.phase ≡ true → Ending e → Acts e tag x (GoesOn y t) → Ending t
-  goes e tag (Data d) y t has m c (PieceComes k g o r is hears some same taken) = still e t c (home_like e _ c.this.home refl refl refl refl refl) refl refl
-  goes e tag (IData d) y t has m c (PieceComes k g o r is hears some same taken) = still e t c (home_like e _ c.this.home refl refl refl refl refl) refl refl
+  goes e tag (Data d) y t has m c (PieceComes k g o r is hears some same taken right) = still e t c (home_like e _ c.this.home refl refl refl refl refl) refl refl
+  goes e tag (IData d) y t has m c (PieceComes k g o r is hears some same taken right) = still e t c (home_like e _ c.this.home refl refl refl refl refl) refl refl
   goes e tag (Init i) y t has m c h = absurd (cc)
   goes e tag (InitAck i) y t has m c (AcceptedAck d cookie is tagged value fault) = absurd (not_calling e.phase d is m)
   goes e tag (Sack s) y t has m c (SackStale hears fault) = c
   goes e tag (Sack s) y t has m c (SackCounts on none) = acknowledged e t c (home_like e _ c.this.home refl refl refl refl refl) refl on
   goes e tag (Heartbeat i) y t has m c (HeartbeatCounts on) = still e t c (home_like e _ c.this.home refl refl refl refl refl) refl refl
-  goes e tag (HeartbeatAck i) y t has m c h = let q : t ≡ e = cc in subst Ending (sym q) c
+  goes e tag (HeartbeatAck i) y t has m c h = let q : t ≡ beat_heard e i = cc in subst Ending (sym q) (still e (beat_heard e i) c (home_like e _ c.this.home refl refl refl refl refl) refl refl)
   goes e tag (Abort b xs) y t has m c h = absurd (cc)
   goes e tag (Shutdown n) y t has m c (ShutdownStale k g is on fault) = hears_shutdown e t k g n c has is on (home_turned (Open k ShutdownReceived) e) refl
   goes e tag (Shutdown n) y t has m c (ShutdownCounts k g is on none) =
@@ -165,8 +166,10 @@ module _ (p : EndView) (out back : List ChunkMeaning) where
   pub replies : (e : EndView) (tag : ℕ) (x : ChunkMeaning) (t : EndView) (r : Packet) → Has back x → Ending e → Acts e tag x (Replies t r) → Ending t
   replies e tag (Data d) t r has c (PieceEmpty _ _ _ _ _) = fault e c
   replies e tag (Data d) t r has c (WrongFormat _ _ _ _ _ _) = fault e c
+  replies e tag (Data d) t r has c (Misnumbered _ _ _ _ _ _ _ _ _) = fault e c
   replies e tag (IData d) t r has c (PieceEmpty _ _ _ _ _) = fault e c
   replies e tag (IData d) t r has c (WrongFormat _ _ _ _ _ _) = fault e c
+  replies e tag (IData d) t r has c (Misnumbered _ _ _ _ _ _ _ _ _) = fault e c
   replies e tag (Init i) t r has c h = absurd (cc)
   replies e tag (InitAck i) t r has c (RefusedAck _ _ _ _ _) = fault e c
   replies e tag (Sack s) t r has c (SackWrong _ _ _ _ _) = fault e c

@@ -11,7 +11,7 @@ use Rattle.sctp_model.specs.sender.Reached.{IsReached, Rebases}
 use Rattle.sctp_model.specs.end.EndView.{Terms, Established, ShutdownPending, ShutdownReceived, ShutdownSent, ShutdownAckSent, Phase, Idle, Listening, Calling, Echoing, Open, Over, ShutdownAlarm, AckAlarm, EndView, format_for, format_of}
 use Rattle.sctp_model.specs.end.Clock.{is_home}
 use Rattle.sctp_model.specs.end.Closing.{hears, awaits_ack}
-use Rattle.sctp_model.specs.end.Building.{Slot, is_due, Wants, EchoCookie, AckCookie, AckHeartbeat, ReportCauses, Acknowledge, PassOn, SayShutdown, AnswerShutdown, Puts, NoMore, NotDue, Put, IsFull, echoing_slots, open_slots, filled_behind, sent, fragments, Builds, Sleeps, Waits, Calls, Echoes, EndsFull, Fills, EchoSlot, CookieAckSlot, HeartbeatSlot, ErrorSlot, SackSlot, ForwardSlot, AnswerSlot, RequestSlot, AnswerReset, AskReset, ShutdownSlot, ShutdownAckSlot, once_built, room_behind}
+use Rattle.sctp_model.specs.end.Building.{Slot, is_due, Wants, EchoCookie, AckCookie, AckHeartbeat, Beat, ReportCauses, Acknowledge, PassOn, SayShutdown, AnswerShutdown, Puts, NoMore, NotDue, Put, IsFull, echoing_slots, open_slots, filled_behind, sent, fragments, Builds, Sleeps, Waits, Calls, Echoes, EndsFull, Fills, EchoSlot, CookieAckSlot, HeartbeatSlot, BeatSlot, ErrorSlot, SackSlot, ForwardSlot, AnswerSlot, RequestSlot, AnswerReset, AskReset, ShutdownSlot, ShutdownAckSlot, once_built, room_behind}
 use Rattle.sctp_model.specs.end.Reconfiguring.{asking}
 use Rattle.sctp_safety.specs.States.{has_agreed}
 use Rattle.sctp_safety.proofs.runs.Sending.{Has-map}
@@ -72,6 +72,7 @@ module _ (p : EndView) (back : List ChunkMeaning) where
   put_one s out e x c due (EchoCookie _ _ _) = put out e (once_built EchoSlot e) x c (home_like e _ c.this.home refl refl refl refl refl) refl refl (λ on. absurd (cc))
   put_one s out e x c due AckCookie = put out e (once_built CookieAckSlot e) x c (home_like e _ c.this.home refl refl refl refl refl) refl refl (λ on. absurd (cc))
   put_one s out e x c due (AckHeartbeat _ _) = put out e (once_built HeartbeatSlot e) x c (home_like e _ c.this.home refl refl refl refl refl) refl refl (λ on. absurd (cc))
+  put_one s out e x c due Beat = put out e (once_built BeatSlot e) x c (home_like e _ c.this.home refl refl refl refl refl) refl refl (λ on. absurd (cc))
   put_one s out e x c due ReportCauses = put out e (once_built ErrorSlot e) x c (home_like e _ c.this.home refl refl refl refl refl) refl refl (λ on. absurd (cc))
   put_one s out e x c due (Acknowledge made is) = put out e (once_built SackSlot e) x c (home_like e _ c.this.home refl refl refl refl refl) refl refl (λ on. absurd (cc))
   put_one s out e x c due PassOn = put out e (once_built ForwardSlot e) x c (home_like e _ c.this.home refl refl refl refl refl) refl refl (λ on. absurd (let off = forward_is_other (format_of e) e.sender (forward_end (format_of e) e.configuration.limit e.sender) in cc))
@@ -114,6 +115,7 @@ module _ (p : EndView) (back : List ChunkMeaning) where
   built_sender EchoSlot e = (refl, refl)
   built_sender CookieAckSlot e = (refl, refl)
   built_sender HeartbeatSlot e = (refl, refl)
+  built_sender BeatSlot e = (refl, refl)
   built_sender ErrorSlot e = (refl, refl)
   built_sender SackSlot e = (refl, refl)
   built_sender ForwardSlot e = (refl, refl)

@@ -9,13 +9,15 @@ use Rattle.sctp_model.specs.sender.Abandoning.{abandon_after, worn}
 use Rattle.sctp_model.specs.sender.Readers.{point, drained}
 use Rattle.sctp_model.specs.sender.Reached.{IsReached}
 use Rattle.sctp_model.specs.end.EndView.{TimedOut, Established, ShutdownPending, ShutdownSent, ShutdownReceived, ShutdownAckSent, AbortedHere, Phase, Idle, Listening, Calling, Echoing, Open, Over, Alarm, InitAlarm, CookieAlarm, DataAlarm, ShutdownAlarm, AckAlarm, ResetAlarm, EndView, format_of, has_association}
-use Rattle.sctp_model.specs.end.Clock.{repeats_of, is_over_at, with_timer, turned, closed, at_moment, settled}
-use Rattle.sctp_model.specs.end.Clock.{expired_timer}
+use Rattle.sctp_model.specs.end.EndView.{BeatAlarm, GuardAlarm}
+use Rattle.sctp_model.specs.end.Clock.{is_over_at, with_timer, turned, closed, at_moment, settled}
+use Rattle.sctp_model.specs.end.Clock.{expired_timer, may_go_on}
 use Rattle.sctp_model.specs.end.Closing.{hears}
 use Rattle.sctp_model.specs.end.Moments.{after_abandoning, is_data_due, given_up, due_again, rung, ring, rung_all, all_alarms, passed, ticked, waited_in}
 use Rattle.sctp_model.specs.end.Wearing.{wearing}
 use Rattle.sctp_model.proofs.PacedEnds.{worn_cases}
 use Rattle.sctp_model.specs.end.UserCalls.{NotOpen, is_established, answer_for, send_answer, send_leaves, is_open, abandoned_at, UserTakes, ResetCall, Begun, NotAgreed, NoStream, reset_leaves, told_leaves, shut_in, shut, AbortAnswer, Aborts, NoPeer, TooLong, abort_leaves}
+use Rattle.sctp_model.specs.end.UserCalls.{updating}
 use Rattle.sctp_safety.proofs.runs.Drained.{drained_abandoned, drained_worn, drained_given_up, drained_timed_out}
 use Rattle.sctp_safety.proofs.machine.Reconfigured.{retried_of}
 use Rattle.sctp_safety.proofs.runs.Homes.{home_like, IsHome, home_turned}
@@ -48,12 +50,14 @@ module _ (p : EndView) (out back : List ChunkMeaning) where
 
   -- ---- timers
 
-  again : (a : Alarm) (e : EndView) → Ending e → is_over_at e.moment (e.timers a).expiry ≡ true → Ending (due_again a (with_timer a (expired_timer (e.timers a)) e))
+  again : (a : Alarm) (e : EndView) → Ending e → is_over_at e.moment (e.timers a).expiry ≡ true → Ending (due_again a (with_timer a (expired_timer e.configuration.longest_wait (e.timers a)) e))
   again InitAlarm e c on = still e _ c (home_like e _ c.this.home refl refl refl refl refl) refl (λ y. y)
   again CookieAlarm e c on = still e _ c (home_like e _ c.this.home refl refl refl refl refl) refl (λ y. y)
   again DataAlarm e c on = still e _ c (home_like e _ c.this.home refl refl refl refl refl) refl (drained_timed_out e.sender)
   again ResetAlarm e c on = still e _ c (home_like e _ c.this.home refl refl refl refl refl) refl
       (λ y. subst (λ (v : SenderView). drained v ≡ true) (sym (retried_of e.sender).1) y)
+  again BeatAlarm e c on = still e _ c (home_like e _ c.this.home refl refl refl refl refl) refl (λ y. y)
+  again GuardAlarm e c on = still e _ c (home_like e _ c.this.home refl refl refl refl refl) refl (λ y. y)
   again ShutdownAlarm e c on = still e _ c (record {
     shutdown = λ z. let r = was_running e.moment (e.timers ShutdownAlarm).expiry on in c.this.home.shutdown_runs r.0 r.1;
     ack = c.this.home.ack;
@@ -69,9 +73,9 @@ module _ (p : EndView) (out back : List ChunkMeaning) where
 
   rings : (a : Alarm) (e : EndView) → Ending e → (b : Bool) → is_over_at e.moment (e.timers a).expiry ≡ b → Ending (rung b a e)
   rings a e c false is = c
-  rings a e c true is = go (nat_lt (e.timers a).repeats (repeats_of a))
+  rings a e c true is = go (may_go_on a e)
     where
-      go : (b : Bool) → Ending (if b then due_again a (with_timer a (expired_timer (e.timers a)) e) else closed TimedOut e)
+      go : (b : Bool) → Ending (if b then due_again a (with_timer a (expired_timer e.configuration.longest_wait (e.timers a)) e) else closed TimedOut e)
       go true = again a e c is
       go false = ending_still e p (closed TimedOut e) out back c (onward_over p out back e TimedOut (λ z. absurd (cc)))
 
@@ -140,7 +144,7 @@ module _ (p : EndView) (out back : List ChunkMeaning) where
       go false = still e (record e { sender = abandon_after e.sender k }) c (home_like e _ c.this.home refl refl refl refl refl) refl (drained_abandoned (format_of e) e.sender k h)
 
   pub ending_taken : (e : EndView) (s : ℕ) (h : Option Handed) (t : EndView) → Ending e → UserTakes e s h t → Ending t
-  ending_taken e s h t c k = subst Ending (sym k.leaves) (still e (record e { receiver = k.receiver }) c (home_like e _ c.this.home refl refl refl refl refl) refl (λ on. on))
+  ending_taken e s h t c k = subst Ending (sym k.leaves) (still e (updating (record e { receiver = k.receiver })) c (home_like e _ c.this.home refl refl refl refl refl) refl (λ on. on))
 
   pub ending_reset : (e : EndView) (a : ResetCall) (s : ℕ) → Ending e → Ending (reset_leaves a e s)
   ending_reset e Begun s c = still e (reset_leaves Begun e s) c (home_like e _ c.this.home refl refl refl refl refl) refl (λ on. on)

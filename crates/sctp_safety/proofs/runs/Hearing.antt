@@ -159,8 +159,8 @@ module _ (f : Format) (n : ℕ) (a : SenderView) (u : Asked) (r : ReceiverView) 
       let ahead = counted.window in
       omega (arith, low, ahead, by_then)
 
-  pub after_sack_made : (s : SackMeaning) (k : Date) → k.there ≤ length a.plan.entries → IsSack r s → Direction f n a u r out (back ++ dated k (Sack s) ∷ [])
-  after_sack_made s k by_then made = go (sack_made_is_moves here s made)
+  pub after_sack_made : (most : ℕ) (s : SackMeaning) (k : Date) → k.there ≤ length a.plan.entries → IsSack most r s → Direction f n a u r out (back ++ dated k (Sack s) ∷ [])
+  after_sack_made most s k by_then made = go (sack_made_is_moves here most s made)
     where
       go : IsSackPut here s → Direction f n a u r out (back ++ dated k (Sack s) ∷ [])
       go p = put_back (record d.bags { sacks = p.sack ∷ d.bags.sacks })

@@ -73,6 +73,6 @@ home_acknowledges t g e is h = record { shutdown = λ on. go (or_cases e.due.shu
 pub home_renewed : (e : EndView) → IsHome e → IsHome (kept_going true e)
 home_renewed e h = record { shutdown = h.shutdown; ack = h.ack; shutdown_runs = λ n on. by (e.timers ShutdownAlarm).expiry refl n on; ack_runs = h.ack_runs }
   where
-    by : (o : Option ℕ) → (e.timers ShutdownAlarm).expiry ≡ o → (n : ℕ) → renewed_expiry e.moment o ≡ Some n → is_home ShutdownAlarm e.phase ≡ true
+    by : (o : Option ℕ) → (e.timers ShutdownAlarm).expiry ≡ o → (n : ℕ) → renewed_expiry e.configuration.first_wait e.moment o ≡ Some n → is_home ShutdownAlarm e.phase ≡ true
     by None rests n on = absurd (cc)
     by (Some m) runs n on = h.shutdown_runs m runs

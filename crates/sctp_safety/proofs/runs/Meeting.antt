@@ -7,12 +7,12 @@ use Rattle.sctp_model.specs.wire.Reconfig.{BadNumber, InProgress}
 use Rattle.sctp_model.specs.sender.Outgoing.{Outgoing, no_outgoing}
 use Rattle.sctp_model.specs.receiver.Incoming.{Incoming, no_incoming}
 use Rattle.sctp_safety.proofs.runs.ResetFacts.{AreInStep}
-use Rattle.sctp_model.specs.sender.SenderView.{SenderView, fresh_sender}
+use Rattle.sctp_model.specs.sender.SenderView.{SenderView, fresh_sender, SendLimits}
 use Rattle.sctp_model.specs.receiver.ReceiverView.{ReceiverView, fresh_receiver}
 use Rattle.sctp_model.specs.world.Calls.{Asked}
 use Rattle.sctp_model.specs.world.Safe.{Safe}
 use Rattle.sctp_model.specs.sender.Reached.{Begins}
-use Rattle.sctp_model.specs.end.EndView.{Completed, Phase, Idle, Listening, Calling, Echoing, Open, Over, EndView, format_for, format_of}
+use Rattle.sctp_model.specs.end.EndView.{Completed, Phase, Idle, Listening, Calling, Echoing, Open, Over, EndView, format_for, format_of, send_limits}
 use Rattle.sctp_model.specs.end.Closing.{hears, awaits_ack}
 use Rattle.sctp_safety.specs.Way.{Way, IsStart}
 use Rattle.sctp_safety.specs.SenderLaws.{IsSenderOrderly}
@@ -52,6 +52,9 @@ new_step f a r sending receiving = record {
   kept = λ q some. absurd (let h = pending in cc);
   waiting = λ q some. absurd (let h = pending in cc);
   bases = inl (λ l numbered. ap (λ (x : Outgoing). x.base l) sending ∙ sym (ap (λ (x : Incoming). x.base l) receiving), λ q some. absurd (let h = pending in cc));
+  last = λ q is. absurd (let h = ap (λ (x : Outgoing). x.last_made) sending in cc);
+  said = λ q some. absurd (let h = pending in cc);
+  waited = λ w is. absurd (let h = ap (λ (x : Incoming). x.waited) receiving in cc);
   old = λ l n below. let h = ap (λ (x : Outgoing). x.base l) sending in absurd (omega (arith, below, h));
   answers = λ x has. absurd (subst (λ (y : Incoming). Has y.answers x) receiving has);
   typed = λ x has. absurd (subst (λ (y : Incoming). Has y.answers x) receiving has);
@@ -69,18 +72,18 @@ new_step f a r sending receiving = record {
     not_progress : r.resets.result ≡ InProgress → ⊥
     not_progress is = let h : BadNumber ≡ InProgress = sym (ap (λ (x : Incoming). x.result) receiving) ∙ is in cc
 
-module _ (f : Format) (tsn peer_tsn outbound inbound fragment rwnd buffer : ℕ) (partial : Bool) (u : Asked) (none : u.calls ≡ []) where
+module _ (f : Format) (tsn peer_tsn outbound inbound fragment rwnd buffer reserve : ℕ) (partial : Bool) (limits : SendLimits) (u : Asked) (none : u.calls ≡ []) where
   abbrev a : SenderView
-  a = fresh_sender tsn outbound fragment rwnd partial
+  a = fresh_sender tsn outbound fragment rwnd partial limits
 
   abbrev r : ReceiverView
-  r = fresh_receiver peer_tsn inbound buffer
+  r = fresh_receiver peer_tsn inbound buffer reserve
 
   abbrev way : Way
   way = way_of f outbound a u r no_bags
 
   begins : IsStart way
-  begins = new_ends_start way tsn outbound fragment rwnd partial peer_tsn inbound buffer refl refl none refl refl refl refl
+  begins = new_ends_start way tsn outbound fragment rwnd partial limits peer_tsn inbound buffer reserve refl refl none refl refl refl refl
 
   ordered : IsSenderOrderly way
   ordered = record {
@@ -97,8 +100,8 @@ module _ (f : Format) (tsn peer_tsn outbound inbound fragment rwnd buffer : ℕ)
   new_direction out back same streams large opening opening_back = record {
     bags = no_bags;
     usual = record { origin = way; started = begins; led = ([], refl); order = ordered };
-    reached = Begins tsn outbound fragment rwnd partial large;
-    idle = (fresh_at_rest f peer_tsn inbound buffer).idle;
+    reached = Begins tsn outbound fragment rwnd partial limits large;
+    idle = (fresh_at_rest f peer_tsn inbound buffer reserve).idle;
     initial = same;
     outbound = refl;
     inbound = streams;
@@ -113,16 +116,16 @@ module _ (f : Format) (tsn peer_tsn outbound inbound fragment rwnd buffer : ℕ)
 pub blank_is_safe : (e p : EndView) (u : Asked) → u.calls ≡ [] → IsBlank e → IsBlank p → Safe (format_of e) e.sender p.receiver u
 blank_is_safe e p u none be bp =
     subst (λ (x : SenderView). Safe (format_of e) x p.receiver u) (sym be.sender)
-    (subst (λ (y : ReceiverView). Safe (format_of e) (fresh_sender e.terms.own_tsn e.terms.outbound e.configuration.fragment be.rwnd e.terms.partial) y u) (sym bp.receiver)
-    (new_is_safe (format_of e) e.terms.own_tsn p.terms.peer_tsn e.terms.outbound p.terms.inbound e.configuration.fragment be.rwnd p.configuration.buffer e.terms.partial u none))
+    (subst (λ (y : ReceiverView). Safe (format_of e) (fresh_sender e.terms.own_tsn e.terms.outbound e.configuration.fragment be.rwnd e.terms.partial (send_limits e.configuration)) y u) (sym bp.receiver)
+    (new_is_safe (format_of e) e.terms.own_tsn p.terms.peer_tsn e.terms.outbound p.terms.inbound e.configuration.fragment be.rwnd p.configuration.buffer p.configuration.reserve e.terms.partial (send_limits e.configuration) u none))
 
 one_way : (e p : EndView) (u : Asked) (out back : List Dated) → u.calls ≡ [] → IsBlank e → IsBlank p →
     p.terms.peer_tsn ≡ e.terms.own_tsn → p.terms.inbound ≡ e.terms.outbound → 0 < e.configuration.fragment → AreOpening (undated out) → AreOpening (undated back) →
     Direction (format_of e) e.terms.outbound e.sender u p.receiver out back
 one_way e p u out back none be bp same streams large opening opening_back =
     subst (λ (x : SenderView). Direction (format_of e) e.terms.outbound x u p.receiver out back) (sym be.sender)
-    (subst (λ (y : ReceiverView). Direction (format_of e) e.terms.outbound (fresh_sender e.terms.own_tsn e.terms.outbound e.configuration.fragment be.rwnd e.terms.partial) u y out back) (sym bp.receiver)
-    (new_direction (format_of e) e.terms.own_tsn p.terms.peer_tsn e.terms.outbound p.terms.inbound e.configuration.fragment be.rwnd p.configuration.buffer e.terms.partial u none
+    (subst (λ (y : ReceiverView). Direction (format_of e) e.terms.outbound (fresh_sender e.terms.own_tsn e.terms.outbound e.configuration.fragment be.rwnd e.terms.partial (send_limits e.configuration)) u y out back) (sym bp.receiver)
+    (new_direction (format_of e) e.terms.own_tsn p.terms.peer_tsn e.terms.outbound p.terms.inbound e.configuration.fragment be.rwnd p.configuration.buffer p.configuration.reserve e.terms.partial (send_limits e.configuration) u none
     out back same streams large opening opening_back))
 
 -- Two new endpoints that agree have met.

@@ -2,7 +2,7 @@
 use Rattle.std.proofs.Common.{◌≡◌, ℕ, suc, max, nat_le, if◌then◌else◌, Bool, true, false, List, ◌++◌, length, Option, Some, None, refl, sym, subst, arith, ◌∙◌}
 use Rattle.sctp_model.specs.wire.Chunk.{ChunkMeaning}
 use Rattle.sctp_model.specs.wire.Packet.{Packet, size_of_packet}
-use Rattle.sctp_model.specs.world.Calls.{Call, Asked}
+use Rattle.sctp_model.specs.world.Calls.{Call}
 use Rattle.sctp_model.specs.end.EndView.{EndView}
 use Rattle.sctp_model.specs.end.Strays.{Verdict, Taken, Dropped, Answer}
 use Rattle.sctp_model.specs.end.Moments.{ticked}

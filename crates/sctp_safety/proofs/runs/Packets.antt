@@ -17,7 +17,7 @@ use Rattle.sctp_model.specs.sender.SentChunks.{chunk_of, forward_chunk_to, forwa
 use Rattle.sctp_model.proofs.sender.FillLaws.{fill_is_fill}
 use Rattle.sctp_model.proofs.sender.OwedLaws.{is_windowed}
 use Rattle.sctp_model.specs.end.EndView.{Terms, Phase, ResetAlarm, EndView, format_for, format_of}
-use Rattle.sctp_model.specs.end.Building.{Slot, Wants, EchoCookie, AckCookie, AckHeartbeat, ReportCauses, Acknowledge, PassOn, SayShutdown, AnswerShutdown, Puts, NoMore, NotDue, Put, IsFull, echoing_slots, open_slots, filled_behind, sent, fragments, Builds, Sleeps, Waits, Calls, Echoes, EndsFull, Fills, EchoSlot, CookieAckSlot, HeartbeatSlot, ErrorSlot, SackSlot, ForwardSlot, AnswerSlot, RequestSlot, AnswerReset, AskReset, ShutdownSlot, ShutdownAckSlot, once_built, room_behind}
+use Rattle.sctp_model.specs.end.Building.{Slot, Wants, EchoCookie, AckCookie, AckHeartbeat, Beat, ReportCauses, Acknowledge, PassOn, SayShutdown, AnswerShutdown, Puts, NoMore, NotDue, Put, IsFull, echoing_slots, open_slots, filled_behind, sent, fragments, Builds, Sleeps, Waits, Calls, Echoes, EndsFull, Fills, EchoSlot, CookieAckSlot, HeartbeatSlot, BeatSlot, ErrorSlot, SackSlot, ForwardSlot, AnswerSlot, RequestSlot, AnswerReset, AskReset, ShutdownSlot, ShutdownAckSlot, once_built, room_behind}
 use Rattle.std.proofs.lemmas.Bool.{and_parts}
 use Rattle.sctp_model.specs.sender.Resetting.{may_ask, asked, request_said}
 use Rattle.sctp_model.specs.receiver.ResetTaken.{last_finished, with_answers}
@@ -50,6 +50,7 @@ once_sends : (s : Slot) (e : EndView) → IsSendingAs e (once_built s e)
 once_sends EchoSlot e = record { terms = refl; sender = refl }
 once_sends CookieAckSlot e = record { terms = refl; sender = refl }
 once_sends HeartbeatSlot e = record { terms = refl; sender = refl }
+once_sends BeatSlot e = record { terms = refl; sender = refl }
 once_sends ErrorSlot e = record { terms = refl; sender = refl }
 once_sends SackSlot e = record { terms = refl; sender = refl }
 once_sends ForwardSlot e = record { terms = refl; sender = refl }
@@ -113,10 +114,11 @@ module _ (p : EndView) (u v : Asked) (back : List Dated) (k : Date) (by_then : k
   put_one s out e x m (EchoCookie _ _ _) = put_quiet out e (once_built EchoSlot e) x m refl refl (record { terms = refl; sender = refl; receiver = refl; moment = refl }) refl
   put_one s out e x m AckCookie = put_quiet out e (once_built CookieAckSlot e) x m refl refl (record { terms = refl; sender = refl; receiver = refl; moment = refl }) refl
   put_one s out e x m (AckHeartbeat _ _) = put_quiet out e (once_built HeartbeatSlot e) x m refl refl (record { terms = refl; sender = refl; receiver = refl; moment = refl }) refl
+  put_one s out e x m Beat = put_quiet out e (once_built BeatSlot e) x m refl refl (record { terms = refl; sender = refl; receiver = refl; moment = refl }) refl
   put_one s out e x m ReportCauses = put_quiet out e (once_built ErrorSlot e) x m refl refl (record { terms = refl; sender = refl; receiver = refl; moment = refl }) refl
   put_one s out e x m (Acknowledge made is) = put out e (once_built SackSlot e) x m (sack_sent e.receiver) (going_quiet out e x m refl)
       (after_note (format_of p) p.terms.outbound p.sender v e.receiver back (out ++ dated k (Sack made) ∷ [])
-      (after_sack_made (format_of p) p.terms.outbound p.sender v e.receiver back out m.met.coming made k by_then is) []) (record { terms = refl; sender = refl; receiver = refl; moment = refl }) refl
+      (after_sack_made (format_of p) p.terms.outbound p.sender v e.receiver back out m.met.coming _ made k by_then is) []) (record { terms = refl; sender = refl; receiver = refl; moment = refl }) refl
   put_one s out e x m PassOn =
       let q = forward_end (format_of e) e.configuration.limit e.sender in
       let going = after_forward (format_of e) e.terms.outbound e.sender u p.receiver out back q (end_from (format_of e) e.configuration.limit e.sender) (end_upto (format_of e) e.configuration.limit e.sender)

@@ -1,5 +1,5 @@
 -- A request of the peer to number streams anew, whichever is answered, leaves the direction in step (RFC 6525, 5.2).
-use Rattle.std.proofs.Common.{◌≡◌, ℕ, suc, ◌^◌, ◌<◌, ◌≤◌, ◌⊎◌, ◌==◌, ◌&&◌, not, nat_le, Bool, true, false, List, [], ◌∷◌, ◌++◌, length, Option, None, Some, inl, inr, refl, sym, subst, ap, arith, ◌∙◌, eqb-true, if◌then◌else◌, append-nil}
+use Rattle.std.proofs.Common.{◌≡◌, ℕ, suc, ◌^◌, ◌<◌, ◌≤◌, ◌⊎◌, ◌==◌, ◌&&◌, not, nat_le, Bool, true, false, List, [], ◌∷◌, ◌++◌, length, Option, None, Some, is_some, inl, inr, refl, sym, subst, ap, arith, ◌∙◌, eqb-true, if◌then◌else◌, append-nil}
 use Rattle.std.specs.Prelude.{drop}
 use Rattle.std.specs.List.{list_any}
 use Rattle.std.proofs.lemmas.Bool.{cases_lt, and_parts, or_parts, or_cases}
@@ -32,7 +32,7 @@ use Rattle.sctp_safety.proofs.receiving.ReadBounds.{cum_within}
 use Rattle.sctp_safety.proofs.receiving.CountReads.{all_counted}
 use Rattle.sctp_safety.proofs.runs.Dates.{Dated}
 use Rattle.sctp_safety.proofs.runs.Direction.{way_of, Readably, Answeredly, Direction, counted_in, more_same, said_later, said_back_later}
-use Rattle.sctp_safety.proofs.runs.ResetFacts.{IsAskedBy, IsAnsweredBy, AreAnswers, IsOpen, AreEven, IsAhead, AreInStep, IsKept, one_number, behind_is, u32_back, behind_u32, WasWaiting, IsNotedDone, IsNoted, noted_received, noted_done}
+use Rattle.sctp_safety.proofs.runs.ResetFacts.{IsAskedBy, IsAnsweredBy, AreAnswers, IsOpen, AreEven, IsAhead, AreInStep, IsKept, SaysSame, IsOfLast, last_received, one_number, behind_is, u32_back, behind_u32, WasWaiting, IsNotedDone, IsNoted, noted_received, noted_done}
 
 -- ---- a receiver that knows something else of resets
 
@@ -277,6 +277,54 @@ module _ (f : Format) (n : ℕ) (a : SenderView) (u : Asked) (r : ReceiverView) 
         )
         go false again = inl (ap (λ (c : Bool). if c then no_waited else Some (as_said true)) again ∙ ap (λ (w : Waited). Some w) says)
 
+    -- What is known of one that is in progress, or was, is what it says;
+    waited_says : (x : ResetResult) (w : Waited) → waited_on r m x ≡ Some w → SaysSame r.initial w q
+    waited_says x w is = by (is_in_progress x) (is_next r m.number) is
+      where
+        said : (b : Bool) → Some (as_said b) ≡ Some w → SaysSame r.initial w q
+        said b e =
+            let one : as_said b ≡ w = cc e in
+            (sym (ap (λ (v : Waited). v.last) one) ∙ ap (λ (v : Waited). v.last) says, sym (ap (λ (v : Waited). v.streams) one) ∙ ap (λ (v : Waited). v.streams) says)
+
+        by : (b c : Bool) → (if b then Some (as_said (was_performed r m)) else if c then no_waited else Some (as_said (is_done x))) ≡ Some w → SaysSame r.initial w q
+        by true c e = said (was_performed r m) e
+        by false false e = said (is_done x) e
+        by false true e = absurd (cc)
+
+    -- so it is of the last one made.
+    waited_last : (s : Incoming) (x : ResetResult) → s.taken ≡ (if is_next r m.number then suc r.resets.taken else r.resets.taken) → s.waited ≡ waited_on r m x → (w : Waited) → s.waited ≡ Some w →
+        IsOfLast a (record r { resets = s }) w
+    waited_last s x taken waited w is = record {
+      request = record q { numbering = FirstNumber };
+      last = d.step.said q t.waits;
+      taken = λ le. waited_says x w (sym waited ∙ is);
+      new = λ lt. let k = t.first in let e = now_taken in absurd (omega (arith, lt, k, e, taken));
+    }
+
+    listed_is : (xs ys : List ℕ) → are_listed xs ys ≡ true → xs ≡ ys
+    listed_is [] [] on_both = refl
+    listed_is (x ∷ xs) (y ∷ ys) on_both =
+        let both = and_parts (x == y) (are_listed xs ys) on_both in
+        ap (λ (z : ℕ). z ∷ xs) (eqb-true x y both.0) ∙ ap (λ (zs : List ℕ). y ∷ zs) (listed_is xs ys both.1)
+    listed_is (x ∷ xs) [] on_both = absurd (cc)
+    listed_is [] (y ∷ ys) on_both = absurd (cc)
+
+    -- The request was performed before: so that is noted.
+    was_noted : was_performed r m ≡ true → IsNotedDone a r q
+    was_noted again = by r.resets.waited refl again
+      where
+        is_said : (w : Waited) → w.done ≡ true → w.last ≡ m.last → w.streams ≡ m.streams → w ≡ as_said true
+        is_said w done last streams =
+            ap (λ (b : Bool). record w { done = b }) done ∙ ap (λ (i : ℕ). record w { done = true; last = i }) last
+            ∙ ap (λ (xs : List ℕ). record { last = m.last; streams = xs; done = true }) streams
+
+        by : (o : Option Waited) → r.resets.waited ≡ o → is_done_again o m ≡ true → IsNotedDone a r q
+        by None is h = absurd (cc)
+        by (Some w) is h =
+            let first = and_parts w.done ((w.last == m.last) && are_listed w.streams m.streams) h in
+            let second = and_parts (w.last == m.last) (are_listed w.streams m.streams) first.1 in
+            inl (is ∙ ap (λ (v : Waited). Some v) (is_said w first.0 (eqb-true w.last m.last second.0) (listed_is w.streams m.streams second.1) ∙ says))
+
     -- the last one again is noted
     was_waiting : (x : ResetResult) (s : Incoming) → is_next r m.number ≡ false → s.waited ≡ waited_on r m x → WasWaiting (record r { resets = s })
     was_waiting x s off waited = by_waited (is_in_progress x) (is_next r m.number) off waited
@@ -446,6 +494,9 @@ module _ (f : Format) (n : ℕ) (a : SenderView) (u : Asked) (r : ReceiverView) 
               | inl both ↦ inl (both.0, both.1)
               | inr k ↦ inr (record { request = k.request; waits = k.waits; taken = k.taken; done = k.done; streams = k.streams; reached = k.reached; bases = k.bases; noted = k.noted })
             ];
+            last = d.step.last;
+            said = d.step.said;
+            waited = λ w is_kept. last_received a r (with_answers r xs) w refl refl (d.step.waited w is_kept);
             old = d.step.old;
             answers = answers_of (with_answers r xs).resets z more same_answers is one;
             typed = typed_of z more xs is (item_typed m.number answer, refl);
@@ -513,6 +564,9 @@ module _ (f : Format) (n : ℕ) (a : SenderView) (u : Asked) (r : ReceiverView) 
             kept = λ x some later. kept_on s taken waited x some later;
             waiting = d.step.waiting;
             bases = elim bases [ inl both ↦ inl (both.0, λ k some last done. both.1 done) | inr k ↦ inr k ];
+            last = d.step.last;
+            said = d.step.said;
+            waited = waited_last on s (reset_answer r c m) taken waited;
             old = d.step.old;
             answers = answers_of s z more (answered_before on (reset_answer r c m) s taken result waited) (same ∙ is) (one_in s taken result);
             typed = typed_of z more s.answers (same ∙ is) (item_typed m.number answer, refl);
@@ -629,6 +683,55 @@ module _ (f : Format) (n : ℕ) (a : SenderView) (u : Asked) (r : ReceiverView) 
       go true on Denied e = absurd (never (list_any (nat_le r.streams) m.streams) (not (is_behind r c m.last)) Denied e (λ z. cc) (λ z. cc) (λ z. cc))
       go true on BadNumber e = absurd (never (list_any (nat_le r.streams) m.streams) (not (is_behind r c m.last)) BadNumber e (λ z. cc) (λ z. cc) (λ z. cc))
 
+  -- What is noted anew is to be reported.
+  pub noted_back : (xs : List Typed) (s : ℕ) → IsNoted a (with_answers (reset_taken r c m) xs) s → IsNoted a r s ⊎ (is_some ((with_answers (reset_taken r c m) xs).resets.told s) ≡ true)
+  noted_back xs s = go (is_in_turn r m.number) refl (reset_answer r c m) refl
+    where
+      view : (b : Bool) (x : ResetResult) → ReceiverView
+      view b x = with_answers (if b then with_answer (renumbered_by r (names r m.streams) (names_anew r m) x) m x else r) xs
+
+      -- one that was performed before was noted
+      before : (on : is_in_turn r m.number ≡ true) → was_performed r m ≡ true → (t : ReceiverView) → t.streams ≡ r.streams → IsNoted a t s → IsNoted a r s
+      before on again t streams k = record {
+        request = k.request;
+        waits = k.waits;
+        named = k.named;
+        there = ap (λ (n : ℕ). list_any (nat_le n) k.request.streams) (sym streams) ∙ k.there;
+        done = subst (IsNotedDone a r) (sym (its on k.request k.waits)) (was_noted on again);
+      }
+
+      -- what is known of it then, by its result
+      known : (on : is_in_turn r m.number ≡ true) (x : ResetResult) (y : Request) → (is_done x ≡ false) → waited_on r m x ≡ Some (noted_done r.initial y) → was_performed r m ≡ true
+      known on x y undone is = by (is_in_progress x) (is_next r m.number) is
+        where
+          done_is : (b : Bool) → Some (as_said on b) ≡ Some (noted_done r.initial y) → b ≡ true
+          done_is b e = let same : as_said on b ≡ noted_done r.initial y = cc e in ap (λ (w : Waited). w.done) same
+
+          by : (b k : Bool) → (if b then Some (as_said on (was_performed r m)) else if k then no_waited else Some (as_said on (is_done x))) ≡ Some (noted_done r.initial y) → was_performed r m ≡ true
+          by true k e = done_is (was_performed r m) e
+          by false true e = absurd (cc)
+          by false false e = absurd (let on_it = done_is (is_done x) e in cc (on_it, undone))
+
+      -- one that isn't performed now
+      undone : (on : is_in_turn r m.number ≡ true) (x : ResetResult) → is_done x ≡ false → (x ≡ Performed → ⊥) → IsNoted a (with_answers (with_answer r m x) xs) s → IsNoted a r s
+      undone on x off other k = before on (elim k.done [ inl done ↦ known on x k.request off done | inr never ↦ absurd (other never.1) ]) (with_answers (with_answer r m x) xs) refl k
+
+      performed : (on : is_in_turn r m.number ≡ true) → reset_answer r c m ≡ Performed → (b : Bool) → was_performed r m ≡ b → IsNoted a (view true Performed) s →
+          IsNoted a r s ⊎ (is_some ((view true Performed).resets.told s) ≡ true)
+      performed on e true again k = inl (before on again (view true Performed) refl k)
+      performed on e false off k =
+          let listed : names r m.streams s ≡ true = named on e s ∙ subst (λ (x : Request). lists x.streams s ≡ true) (its on k.request k.waits) k.named in
+          let anew : names_anew r m s ≡ true = rw (listed, off) refl in
+          inr (rw anew refl)
+
+      go : (b : Bool) → is_in_turn r m.number ≡ b → (x : ResetResult) → reset_answer r c m ≡ x → IsNoted a (view b x) s → IsNoted a r s ⊎ (is_some ((view b x).resets.told s) ≡ true)
+      go false off x e k = inl (noted_received a (with_answers r xs) r s refl refl refl refl refl k)
+      go true on Performed e k = performed on e (was_performed r m) refl k
+      go true on InProgress e k = inl (undone on InProgress refl (λ z. cc) k)
+      go true on WrongStream e k = inl (undone on WrongStream refl (λ z. cc) k)
+      go true on Denied e k = inl (undone on Denied refl (λ z. cc) k)
+      go true on BadNumber e k = inl (undone on BadNumber refl (λ z. cc) k)
+
 -- ---- the user is notified
 
 pub after_told : (f : Format) (n : ℕ) (a : SenderView) (u : Asked) (r : ReceiverView) (out back : List Dated) (d : Direction f n a u r out back) (s : ℕ) → Direction f n a u (told_of r s) out back
@@ -646,6 +749,9 @@ after_told f n a u r out back d s = receiver_reset f n a u r out back d (told_of
     | inl both ↦ inl (both.0, both.1)
     | inr x ↦ inr (record { request = x.request; waits = x.waits; taken = x.taken; done = x.done; streams = x.streams; reached = x.reached; bases = x.bases; noted = x.noted })
   ];
+  last = d.step.last;
+  said = d.step.said;
+  waited = λ w is. last_received a r (told_of r s) w refl refl (d.step.waited w is);
   old = d.step.old;
   answers = λ x has kind. let h = d.step.answers x has kind in record { number = h.number; taken = h.taken; wire = h.wire; code = h.code };
   typed = d.step.typed;

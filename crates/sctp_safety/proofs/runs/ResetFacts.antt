@@ -12,7 +12,7 @@ use Rattle.sctp_model.specs.wire.Typed.{Typed, IsTyped}
 use Rattle.sctp_model.specs.wire.Reconfig.{OUTGOING_RESET, RECONFIG_RESPONSE, ResetMeaning, u16s_in, reset_item, reset_read, is_parameter, is_other_request, Performed, BadNumber, InProgress, result_code, is_progress_code}
 use Rattle.sctp_model.specs.messages.Format.{Format, Lane, is_numbered}
 use Rattle.sctp_model.specs.messages.Plan.{Entry, entry_at}
-use Rattle.sctp_model.specs.sender.Outgoing.{is_sending, is_resetting, lists, NextNumber, takes_next, Request, Outgoing}
+use Rattle.sctp_model.specs.sender.Outgoing.{is_sending, is_resetting, lists, FirstNumber, NextNumber, takes_next, Request, Outgoing}
 use Rattle.sctp_model.specs.sender.SenderView.{SenderView}
 use Rattle.sctp_model.specs.sender.Entries.{entry_lane}
 use Rattle.sctp_model.specs.sender.Resetting.{rebased}
@@ -141,6 +141,28 @@ IsUndone a r = (q : Request) → a.resets.pending ≡ Some q → q.first ≤ r.r
 abbrev pub IsKept : SenderView → ReceiverView → Type 0
 IsKept a r = (r.resets.taken ≡ a.resets.made) × (WasWaiting r ⊎ (r.resets.result ≡ InProgress))
 
+-- what is known of a request that was in progress is what this one says
+abbrev pub SaysSame : (initial : ℕ) → Waited → Request → Type 0
+SaysSame i w q = (w.last ≡ tsn i q.last) × (w.streams ≡ q.streams)
+
+-- What the receiver knows of a request that was in progress is what the last one says that was made, if that was taken; else that one says something else.
+pub record IsOfLast (a : SenderView) (r : ReceiverView) (w : Waited) : Type 0 where
+  pub request : Request
+  pub last : a.resets.last_made ≡ Some request
+  pub taken : request.first ≤ r.resets.taken → SaysSame r.initial w request
+  pub new : r.resets.taken < request.first → SaysSame r.initial w request → ⊥
+
+pub last_sent : (a b : SenderView) (r : ReceiverView) (w : Waited) → b.resets.last_made ≡ a.resets.last_made → IsOfLast a r w → IsOfLast b r w
+last_sent a b r w same k = record { request = k.request; last = same ∙ k.last; taken = k.taken; new = k.new }
+
+pub last_received : (a : SenderView) (r t : ReceiverView) (w : Waited) → t.initial ≡ r.initial → t.resets.taken ≡ r.resets.taken → IsOfLast a r w → IsOfLast a t w
+last_received a r t w initial taken k = record {
+  request = k.request;
+  last = k.last;
+  taken = λ le. subst (λ (i : ℕ). SaysSame i w k.request) (sym initial) (k.taken (omega (arith, le, taken)));
+  new = λ lt same. k.new (omega (arith, lt, taken)) (subst (λ (i : ℕ). SaysSame i w k.request) initial same);
+}
+
 pub record AreInStep (f : Format) (a : SenderView) (r : ReceiverView) : Type 0 where
   pub few : a.resets.made ≤ REQUEST_LIMIT
   pub counted : r.resets.result ≡ BadNumber → r.resets.taken ≡ 0
@@ -152,6 +174,9 @@ pub record AreInStep (f : Format) (a : SenderView) (r : ReceiverView) : Type 0 w
   pub kept : (q : Request) → a.resets.pending ≡ Some q → q.numbering ≡ NextNumber → IsKept a r
   pub waiting : (q : Request) → a.resets.pending ≡ Some q → IsOpen a q
   pub bases : (AreEven f a r × IsUndone a r) ⊎ IsAhead f a r
+  pub last : (q : Request) → a.resets.last_made ≡ Some q → q.first ≤ a.resets.made
+  pub said : (q : Request) → a.resets.pending ≡ Some q → a.resets.last_made ≡ Some (record q { numbering = FirstNumber })
+  pub waited : (w : Waited) → r.resets.waited ≡ Some w → IsOfLast a r w
   pub old : (l : Lane) (n : ℕ) → n < a.resets.base l → IsOld a.plan a.cum l n
   pub answers : AreAnswers r.initial r r.resets.answers
   pub typed : (x : Typed) → Has r.resets.answers x → IsTyped x × (x.kind ≡ RECONFIG_RESPONSE)
@@ -278,6 +303,9 @@ step_sent f a b r same streams cum longer stills olds h = record {
       ];
     })
   ];
+  last = λ q is. let k = h.last q (ap (λ (x : Outgoing). x.last_made) (sym same) ∙ is) in omega (arith, k, made);
+  said = λ q some. ap (λ (x : Outgoing). x.last_made) same ∙ h.said q (waits (Some q) some);
+  waited = λ w is. last_sent a b r w (ap (λ (x : Outgoing). x.last_made) same) (h.waited w is);
   old = λ l n below. let o = olds l n (h.old l n (subst (λ (x : Outgoing). n < x.base l) same below)) in
       record { there = o.there; closed = o.closed; upto = λ i e here own. let u = o.upto i e here own in omega (arith, u, cum) };
   answers = h.answers;
@@ -335,6 +363,9 @@ step_received f a r t same initial streams more h = record {
       ];
     })
   ];
+  last = h.last;
+  said = h.said;
+  waited = λ w is. last_received a r t w initial taken (h.waited w (ap (λ (x : Incoming). x.waited) (sym same) ∙ is));
   old = h.old;
   answers = subst (λ (i : ℕ). AreAnswers i t t.resets.answers) (sym initial)
       (λ x has kind. answered_later r.initial r t x same (h.answers x (subst (λ (y : Incoming). Has y.answers x) same has) kind));

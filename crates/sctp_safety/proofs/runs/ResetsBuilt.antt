@@ -21,7 +21,7 @@ use Rattle.sctp_safety.proofs.runs.Direction.{IsSaid, Direction, more_same}
 use Rattle.sctp_safety.proofs.runs.Sending.{said_more}
 use Rattle.sctp_safety.proofs.runs.Hearing.{put_back}
 use Rattle.sctp_safety.proofs.runs.Renumbering.{receiver_reset}
-use Rattle.sctp_safety.proofs.runs.ResetFacts.{AreAsked, AreAnswers, IsAskedBy, IsAnsweredBy, IsOpen, request_back}
+use Rattle.sctp_safety.proofs.runs.ResetFacts.{AreAsked, AreAnswers, IsAskedBy, IsAnsweredBy, IsOpen, last_received, request_back}
 
 -- ---- parameters of one type are of no other
 
@@ -80,6 +80,9 @@ module _ (f : Format) (n : ℕ) (a : SenderView) (u : Asked) (r : ReceiverView) 
       | inl both ↦ inl (both.0, both.1)
       | inr x ↦ inr (record { request = x.request; waits = x.waits; taken = x.taken; done = x.done; streams = x.streams; reached = x.reached; bases = x.bases; noted = x.noted })
     ];
+    last = d.step.last;
+    said = d.step.said;
+    waited = λ w is. last_received a r (with_answers r []) w refl refl (d.step.waited w is);
     old = d.step.old;
     answers = λ x has. absurd has;
     typed = λ x has. absurd has;

@@ -8,13 +8,15 @@ use Rattle.sctp_model.specs.sender.Queueing.{Refusal, refusal, queued}
 use Rattle.sctp_model.specs.sender.Abandoning.{gives_up, abandon_after, expired, worn, timed_out}
 use Rattle.sctp_model.specs.sender.Readers.{point}
 use Rattle.sctp_model.specs.end.EndView.{TimedOut, Established, ShutdownPending, ShutdownSent, ShutdownReceived, ShutdownAckSent, AbortedHere, Phase, Idle, Listening, Calling, Echoing, Open, Over, Alarm, InitAlarm, CookieAlarm, DataAlarm, ShutdownAlarm, AckAlarm, ResetAlarm, EndView, format_of, has_association}
-use Rattle.sctp_model.specs.end.Clock.{repeats_of, is_over_at, with_timer, turned, closed, at_moment, settled}
-use Rattle.sctp_model.specs.end.Clock.{expired_timer}
+use Rattle.sctp_model.specs.end.EndView.{BeatAlarm, GuardAlarm}
+use Rattle.sctp_model.specs.end.Clock.{is_over_at, with_timer, turned, closed, at_moment, settled}
+use Rattle.sctp_model.specs.end.Clock.{expired_timer, may_go_on}
 use Rattle.sctp_model.specs.end.Closing.{hears}
 use Rattle.sctp_model.specs.end.Moments.{after_abandoning, is_data_due, given_up, due_again, rung, ring, rung_all, all_alarms, passed, ticked, waited_in}
 use Rattle.sctp_model.specs.end.Wearing.{wearing}
 use Rattle.sctp_model.proofs.PacedEnds.{worn_cases}
 use Rattle.sctp_model.specs.end.UserCalls.{SendAnswer, Ticket, Refused, NotOpen, is_established, answer_for, send_answer, send_leaves, is_open, abandoned_at, UserTakes, ResetCall, Begun, NotAgreed, NoStream, reset_leaves, told_leaves, shut_in, shut, AbortAnswer, Aborts, NoPeer, TooLong, abort_leaves, abandons}
+use Rattle.sctp_model.specs.end.UserCalls.{updating}
 use Rattle.sctp_model.specs.sender.Resetting.{resetting, retried}
 use Rattle.sctp_model.specs.receiver.ResetTaken.{told_of}
 use Rattle.sctp_safety.proofs.runs.Asking.{after_resetting, after_retried}
@@ -73,15 +75,17 @@ module _ (p : EndView) (u v : Asked) (out back : List Dated) where
       still (record e { sender = retried e.sender }) _
       (with_sender e (retried e.sender) m (after_retried (format_of e) e.terms.outbound e.sender u p.receiver out back m.going))
       (record { terms = refl; sender = refl; receiver = refl; moment = refl }) m.phase
+  met_again BeatAlarm e m = still e _ m (record { terms = refl; sender = refl; receiver = refl; moment = refl }) m.phase
+  met_again GuardAlarm e m = still e _ m (record { terms = refl; sender = refl; receiver = refl; moment = refl }) m.phase
   met_again AckAlarm e m = still e _ m (record { terms = refl; sender = refl; receiver = refl; moment = refl }) m.phase
 
   met_rung : (b : Bool) (a : Alarm) (e : EndView) → Met e → Met (rung b a e)
   met_rung false a e m = m
-  met_rung true a e m = go (nat_lt (e.timers a).repeats (repeats_of a))
+  met_rung true a e m = go (may_go_on a e)
     where
-      go : (c : Bool) → Met (if c then due_again a (with_timer a (expired_timer (e.timers a)) e) else closed TimedOut e)
-      go true = met_again a (with_timer a (expired_timer (e.timers a)) e)
-          (still e (with_timer a (expired_timer (e.timers a)) e) m (record { terms = refl; sender = refl; receiver = refl; moment = refl }) m.phase)
+      go : (c : Bool) → Met (if c then due_again a (with_timer a (expired_timer e.configuration.longest_wait (e.timers a)) e) else closed TimedOut e)
+      go true = met_again a (with_timer a (expired_timer e.configuration.longest_wait (e.timers a)) e)
+          (still e (with_timer a (expired_timer e.configuration.longest_wait (e.timers a)) e) m (record { terms = refl; sender = refl; receiver = refl; moment = refl }) m.phase)
       go false = still e (closed TimedOut e) m (record { terms = refl; sender = refl; receiver = refl; moment = refl }) refl
 
   met_rung_all : (alarms : List Alarm) (e : EndView) → Met e → Met (rung_all alarms e)
@@ -118,7 +122,9 @@ module _ (p : EndView) (u v : Asked) (out back : List Dated) where
 
   pub met_taken : (e : EndView) (s : ℕ) (h : Option Handed) (t : EndView) → Met e → UserTakes e s h t → Met t
   met_taken e s h t m k = subst Met (sym k.leaves)
+      (still (record e { receiver = k.receiver }) (updating (record e { receiver = k.receiver }))
       (met_views e p u v out back out m e.sender k.receiver m.going (after_take (format_of p) p.terms.outbound p.sender v e.receiver back out m.coming s h k.receiver k.takes))
+      (record { terms = refl; sender = refl; receiver = refl; moment = refl }) m.phase)
 
   pub met_reset : (e : EndView) (c : ResetCall) (s : ℕ) → Met e → Met (reset_leaves c e s)
   met_reset e Begun s m = with_sender e (resetting e.sender s) m (after_resetting (format_of e) e.terms.outbound e.sender u p.receiver out back m.going s)

@@ -1,11 +1,11 @@
 -- An endpoint that isn't open: its sender and its receiver are new, and only its opening's chunks go out.
 use Rattle.std.proofs.Common.{◌≡◌, ℕ, zero, suc, ◌≤◌, Bool, true, false, refl, sym, subst, ap, ◌∙◌}
 use Rattle.sctp_model.specs.wire.Chunk.{ChunkMeaning, Data, IData, Init, InitAck, Sack, Heartbeat, HeartbeatAck, Abort, Shutdown, ShutdownAck, Error, CookieEcho, CookieAck, ShutdownComplete, ForwardTsn, IForwardTsn, Unknown}
-use Rattle.sctp_model.specs.sender.SenderView.{fresh_sender}
+use Rattle.sctp_model.specs.sender.SenderView.{fresh_sender, SendLimits}
 use Rattle.sctp_model.specs.receiver.ReceiverView.{fresh_receiver}
 use Rattle.sctp_model.specs.wire.Packet.{Packet}
 use Rattle.sctp_model.specs.sender.Abandoning.{timed_out}
-use Rattle.sctp_model.specs.end.EndView.{Idle, Listening, Echoing, Calling, Over, Terms, Configuration, Tags, Stage, Ended, Aborted, AbortedHere, Completed, StaleCookie, Phase, Open, EndView}
+use Rattle.sctp_model.specs.end.EndView.{Idle, Listening, Echoing, Calling, Over, Terms, Configuration, Tags, Stage, Ended, Aborted, AbortedHere, Completed, StaleCookie, Phase, Open, EndView, send_limits}
 use Rattle.sctp_model.specs.end.Clock.{turned, closed}
 use Rattle.sctp_model.specs.end.Closing.{awaits_complete, hears, rested}
 use Rattle.sctp_model.specs.end.PeerFaults.{GoesOn, Ends, Replies, Note}
@@ -24,8 +24,8 @@ use Rattle.sctp_safety.proofs.runs.Answers.{reply_opens}
 -- a sender and a receiver by the endpoint's terms that nothing happened to
 pub record IsBlank (e : EndView) : Type 0 where
   pub rwnd : ℕ
-  pub sender : e.sender ≡ fresh_sender e.terms.own_tsn e.terms.outbound e.configuration.fragment rwnd e.terms.partial
-  pub receiver : e.receiver ≡ fresh_receiver e.terms.peer_tsn e.terms.inbound e.configuration.buffer
+  pub sender : e.sender ≡ fresh_sender e.terms.own_tsn e.terms.outbound e.configuration.fragment rwnd e.terms.partial (send_limits e.configuration)
+  pub receiver : e.receiver ≡ fresh_receiver e.terms.peer_tsn e.terms.inbound e.configuration.buffer e.configuration.reserve
 
 -- not open yet, or closed before it ever was
 abbrev pub never_opened : Phase → Bool
@@ -41,11 +41,11 @@ pub record IsUnmet (clock : ℕ) (e : EndView) : Type 0 where
   pub moment : e.moment ≤ clock
 
 -- the data timer marks nothing if nothing went out
-pub timed_fresh : (initial streams fragment rwnd : ℕ) (partial : Bool) → timed_out (fresh_sender initial streams fragment rwnd partial) ≡ fresh_sender initial streams fragment rwnd partial
-timed_fresh initial streams fragment rwnd partial =
-    ap (λ (m : ℕ → Bool). record (fresh_sender initial streams fragment rwnd partial) { marked = m }) (λ i n. unmarked n i)
+pub timed_fresh : (initial streams fragment rwnd : ℕ) (partial : Bool) (limits : SendLimits) → timed_out (fresh_sender initial streams fragment rwnd partial limits) ≡ fresh_sender initial streams fragment rwnd partial limits
+timed_fresh initial streams fragment rwnd partial limits =
+    ap (λ (m : ℕ → Bool). record (fresh_sender initial streams fragment rwnd partial limits) { marked = m }) (λ i n. unmarked n i)
   where
-    unmarked : (n : ℕ) → (timed_out (fresh_sender initial streams fragment rwnd partial)).marked n ≡ false
+    unmarked : (n : ℕ) → (timed_out (fresh_sender initial streams fragment rwnd partial limits)).marked n ≡ false
     unmarked zero = refl
     unmarked (suc n) = refl
 
@@ -63,11 +63,11 @@ pub blank_alike : (e t : EndView) → IsBlank e → IsAlike e t → IsBlank t
 blank_alike e t b l = record {
   rwnd = b.rwnd;
   sender = l.views.sender ∙ b.sender
-      ∙ ap (λ (x : Terms). fresh_sender x.own_tsn x.outbound e.configuration.fragment b.rwnd x.partial) (sym l.views.terms)
-      ∙ ap (λ (c : Configuration). fresh_sender t.terms.own_tsn t.terms.outbound c.fragment b.rwnd t.terms.partial) (sym l.configuration);
+      ∙ ap (λ (x : Terms). fresh_sender x.own_tsn x.outbound e.configuration.fragment b.rwnd x.partial (send_limits e.configuration)) (sym l.views.terms)
+      ∙ ap (λ (c : Configuration). fresh_sender t.terms.own_tsn t.terms.outbound c.fragment b.rwnd t.terms.partial (send_limits c)) (sym l.configuration);
   receiver = l.views.receiver ∙ b.receiver
-      ∙ ap (λ (x : Terms). fresh_receiver x.peer_tsn x.inbound e.configuration.buffer) (sym l.views.terms)
-      ∙ ap (λ (c : Configuration). fresh_receiver t.terms.peer_tsn t.terms.inbound c.buffer) (sym l.configuration);
+      ∙ ap (λ (x : Terms). fresh_receiver x.peer_tsn x.inbound e.configuration.buffer e.configuration.reserve) (sym l.views.terms)
+      ∙ ap (λ (c : Configuration). fresh_receiver t.terms.peer_tsn t.terms.inbound c.buffer c.reserve) (sym l.configuration);
 }
 
 -- no SHUTDOWN COMPLETE is awaited there

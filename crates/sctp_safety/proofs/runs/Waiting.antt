@@ -8,17 +8,19 @@ use Rattle.sctp_model.specs.world.Calls.{Call}
 use Rattle.sctp_model.specs.sender.Abandoning.{abandon_after, timed_out}
 use Rattle.sctp_model.specs.sender.Readers.{point}
 use Rattle.sctp_model.specs.receiver.SackMade.{TakeLeaves}
-use Rattle.sctp_model.specs.end.EndView.{Draw, AbortedHere, TimedOut, Phase, Idle, Listening, Calling, Echoing, Open, Over, Alarm, InitAlarm, CookieAlarm, DataAlarm, ShutdownAlarm, AckAlarm, ResetAlarm, EndView, has_association}
-use Rattle.sctp_model.specs.end.Clock.{is_home, repeats_of, is_over_at, with_timer, closed, at_moment, settled}
-use Rattle.sctp_model.specs.end.Clock.{expired_timer}
+use Rattle.sctp_model.specs.end.EndView.{Draw, AbortedHere, TimedOut, Phase, Idle, Listening, Calling, Echoing, Open, Over, Alarm, InitAlarm, CookieAlarm, DataAlarm, ShutdownAlarm, AckAlarm, ResetAlarm, EndView, has_association, send_limits}
+use Rattle.sctp_model.specs.end.EndView.{BeatAlarm, GuardAlarm}
+use Rattle.sctp_model.specs.end.Clock.{is_home, is_over_at, with_timer, closed, at_moment, settled}
+use Rattle.sctp_model.specs.end.Clock.{expired_timer, may_go_on}
 use Rattle.sctp_model.specs.end.Building.{Slot, EchoSlot, CookieAckSlot, HeartbeatSlot, ErrorSlot, SackSlot, ForwardSlot, AnswerSlot, RequestSlot, AnswerReset, AskReset, ShutdownSlot, ShutdownAckSlot, Wants, EchoCookie, AckCookie, AckHeartbeat, ReportCauses, Acknowledge, PassOn, SayShutdown, AnswerShutdown, Puts, NoMore, NotDue, Put, IsFull, echoing_slots, Builds, Sleeps, Waits, Calls, Echoes, Fills, once_built}
-use Rattle.sctp_model.specs.end.Building.{EndsFull}
+use Rattle.sctp_model.specs.end.Building.{EndsFull, BeatSlot, Beat}
 use Rattle.sctp_model.specs.end.Closing.{hears}
 use Rattle.sctp_model.specs.end.Moments.{after_abandoning, is_data_due, given_up, due_again, rung, ring, rung_all, all_alarms, passed, ticked, waited_in}
 use Rattle.std.specs.Prelude.{find, nat_le, is_some}
 use Rattle.sctp_model.specs.sender.Resetting.{retried}
 use Rattle.sctp_model.specs.sender.Words.{count_up}
 use Rattle.sctp_model.specs.end.UserCalls.{Begun, NotAgreed, NoStream, reset_call, reset_leaves, reset_there, told_leaves, NotOpen, is_established, send_answer, is_open, abandoned_at, UserTakes, shut_in, shut, AbortAnswer, Aborts, NoPeer, TooLong, abort_leaves, called}
+use Rattle.sctp_model.specs.end.UserCalls.{updating}
 use Rattle.sctp_safety.proofs.lists.Basics.{Has-cases}
 use Rattle.sctp_safety.proofs.runs.Homes.{home_like, home_turned}
 use Rattle.sctp_safety.proofs.runs.EndingTimes.{was_running}
@@ -37,7 +39,7 @@ none_is_abandoned : (e : EndView) → IsBlank e → (k : ℕ) → abandon_after 
 none_is_abandoned e b k = ap (λ (a : SenderView). abandon_after a k) b.sender ∙ sym b.sender
 
 none_marked : (e : EndView) → IsBlank e → timed_out e.sender ≡ e.sender
-none_marked e b = ap timed_out b.sender ∙ timed_fresh e.terms.own_tsn e.terms.outbound e.configuration.fragment b.rwnd e.terms.partial ∙ sym b.sender
+none_marked e b = ap timed_out b.sender ∙ timed_fresh e.terms.own_tsn e.terms.outbound e.configuration.fragment b.rwnd e.terms.partial (send_limits e.configuration) ∙ sym b.sender
 
 none_retried : (e : EndView) → IsBlank e → retried e.sender ≡ e.sender
 none_retried e b = ap retried b.sender ∙ sym b.sender
@@ -76,19 +78,21 @@ module _ (clock : ℕ) where
       rests clock (settled (record e { sender = a; due = record e.due { forward = e.due.forward || not (point a == point e.sender) } }))
       (still clock e _ m (alike e _ refl refl same refl refl) m.unopened (home_like e _ m.home refl refl refl refl refl))
 
-  again : (a : Alarm) (e : EndView) → Unmet e → is_over_at e.moment (e.timers a).expiry ≡ true → Unmet (due_again a (with_timer a (expired_timer (e.timers a)) e))
+  again : (a : Alarm) (e : EndView) → Unmet e → is_over_at e.moment (e.timers a).expiry ≡ true → Unmet (due_again a (with_timer a (expired_timer e.configuration.longest_wait (e.timers a)) e))
   again InitAlarm e m on = still clock e _ m (alike e _ refl refl refl refl refl) m.unopened (home_like e _ m.home refl refl refl refl refl)
   again CookieAlarm e m on = still clock e _ m (alike e _ refl refl refl refl refl) m.unopened (home_like e _ m.home refl refl refl refl refl)
   again DataAlarm e m on = still clock e _ m (alike e _ refl refl (none_marked e m.blank) refl refl) m.unopened (home_like e _ m.home refl refl refl refl refl)
   again ResetAlarm e m on = still clock e _ m (alike e _ refl refl (none_retried e m.blank) refl refl) m.unopened (home_like e _ m.home refl refl refl refl refl)
+  again BeatAlarm e m on = still clock e _ m (alike e _ refl refl refl refl refl) m.unopened (home_like e _ m.home refl refl refl refl refl)
+  again GuardAlarm e m on = still clock e _ m (alike e _ refl refl refl refl refl) m.unopened (home_like e _ m.home refl refl refl refl refl)
   again ShutdownAlarm e m on = absurd (let r = was_running e.moment (e.timers ShutdownAlarm).expiry on in no_shutdown_timer e.phase m.unopened (m.home.shutdown_runs r.0 r.1))
   again AckAlarm e m on = absurd (let r = was_running e.moment (e.timers AckAlarm).expiry on in no_ack_timer e.phase m.unopened (m.home.ack_runs r.0 r.1))
 
   rings : (a : Alarm) (e : EndView) → Unmet e → (b : Bool) → is_over_at e.moment (e.timers a).expiry ≡ b → Unmet (rung b a e)
   rings a e m false is = m
-  rings a e m true is = go (nat_lt (e.timers a).repeats (repeats_of a))
+  rings a e m true is = go (may_go_on a e)
     where
-      go : (c : Bool) → Unmet (if c then due_again a (with_timer a (expired_timer (e.timers a)) e) else closed TimedOut e)
+      go : (c : Bool) → Unmet (if c then due_again a (with_timer a (expired_timer e.configuration.longest_wait (e.timers a)) e) else closed TimedOut e)
       go true = again a e m is
       go false = over clock e TimedOut refl m
 
@@ -122,6 +126,7 @@ module _ (clock : ℕ) where
   is_echo_slot ErrorSlot = true
   is_echo_slot CookieAckSlot = false
   is_echo_slot HeartbeatSlot = false
+  is_echo_slot BeatSlot = false
   is_echo_slot SackSlot = false
   is_echo_slot ForwardSlot = false
   is_echo_slot AnswerSlot = false
@@ -135,6 +140,7 @@ module _ (clock : ℕ) where
   one_put s e x on m AckCookie = absurd (cc)
   one_put s e x on m (AckHeartbeat _ _) = absurd (cc)
   one_put s e x on m ReportCauses = (still clock e (once_built ErrorSlot e) m (alike e (once_built ErrorSlot e) refl refl refl refl refl) m.unopened (home_like e _ m.home refl refl refl refl refl), refl)
+  one_put s e x on m Beat = absurd (cc)
   one_put s e x on m (Acknowledge _ _) = absurd (cc)
   one_put s e x on m PassOn = absurd (cc)
   one_put s e x on m AnswerReset = absurd (cc)
@@ -197,7 +203,7 @@ module _ (clock : ℕ) where
   waits_taken e s h t m k = go h k.takes
     where
       go : (o : Option Handed) → TakeLeaves e.receiver s o k.receiver → Unmet t
-      go None (none, same) = subst Unmet (sym k.leaves) (still clock e (record e { receiver = k.receiver }) m (alike e _ refl refl refl same refl) m.unopened (home_like e _ m.home refl refl refl refl refl))
+      go None (none, same) = subst Unmet (sym k.leaves) (still clock e (updating (record e { receiver = k.receiver })) m (alike e _ refl refl refl same refl) m.unopened (home_like e _ m.home refl refl refl refl refl))
       go (Some x) (rest, there, same) = absurd (let q : e.receiver.waiting s ≡ [] = ap (λ (r : ReceiverView). r.waiting s) m.blank.receiver in cc)
 
   pub waits_reset : (e : EndView) (n : ℕ) → Unmet e → Unmet (reset_leaves (reset_call e n) e n)

@@ -3,6 +3,7 @@ pub mod OnWay
 pub mod Recorded
 pub mod Onward
 pub mod LaterEnds
+pub mod Quiet
 pub mod Ongoing
 pub mod Beginning
 pub mod Parting

@@ -6,7 +6,7 @@ use Rattle.sctp_model.specs.numbers.Lists.{at}
 use Rattle.sctp_model.specs.messages.Format.{Format, Lane}
 use Rattle.sctp_model.specs.messages.Plan.{Entry, entry_at}
 use Rattle.sctp_model.specs.messages.Orderly.{Orderly}
-use Rattle.sctp_model.specs.sender.SenderView.{SenderView, fresh_sender}
+use Rattle.sctp_model.specs.sender.SenderView.{SenderView, fresh_sender, SendLimits}
 use Rattle.sctp_model.specs.receiver.ReceiverView.{fresh_receiver}
 use Rattle.sctp_model.specs.world.Calls.{Call}
 use Rattle.sctp_model.specs.sender.Entries.{is_of_abandoned, is_wanted, is_unsettled}
@@ -61,8 +61,8 @@ shadow_tuned f v sent marked repeats c r covered h more parts = shadow_moved f v
 
 -- ---- the beginning
 
-begins : (f : Format) (initial streams fragment rwnd : ℕ) (partial : Bool) → IsShadowed f (fresh_sender initial streams fragment rwnd partial)
-begins f initial streams fragment rwnd partial = record {
+begins : (f : Format) (initial streams fragment rwnd : ℕ) (partial : Bool) (limits : SendLimits) → IsShadowed f (fresh_sender initial streams fragment rwnd partial limits)
+begins f initial streams fragment rwnd partial limits = record {
   base = start;
   usual = record { origin = start; started = started; led = ([], refl); order = record { ends = λ i j l n k part. absurd (nothing i part); marked = λ i on. absurd (cc); tickets = refl } };
   format = refl;
@@ -73,8 +73,8 @@ begins f initial streams fragment rwnd partial = record {
     start = record {
       format = f;
       streams = streams;
-      sender = fresh_sender initial streams fragment rwnd partial;
-      receiver = fresh_receiver 0 streams 0;
+      sender = fresh_sender initial streams fragment rwnd partial limits;
+      receiver = fresh_receiver 0 streams 0 0;
       asked = record { calls = []; named = λ t. false; clock = 0 };
       pieces = [];
       forwards = [];
@@ -83,9 +83,9 @@ begins f initial streams fragment rwnd partial = record {
     }
 
     started : IsStart start
-    started = new_ends_start start initial streams fragment rwnd partial 0 streams 0 refl refl refl refl refl refl refl
+    started = new_ends_start start initial streams fragment rwnd partial limits 0 streams 0 0 refl refl refl refl refl refl refl
 
-    nothing : {e : Entry} (i : ℕ) → entry_at (fresh_sender initial streams fragment rwnd partial).plan i ≡ Some e → ⊥
+    nothing : {e : Entry} (i : ℕ) → entry_at (fresh_sender initial streams fragment rwnd partial limits).plan i ≡ Some e → ⊥
     nothing zero here = cc
     nothing (suc i) here = cc
 
@@ -210,7 +210,7 @@ rebases f v x h = shadow_moved f v (record v { resets = x }) h refl (record {
 })
 
 pub is_shadowed : (f : Format) (v : SenderView) → IsReached f v → IsShadowed f v
-is_shadowed f _ (Begins i s b r p large) = begins f i s b r p
+is_shadowed f _ (Begins i s b r p most large) = begins f i s b r p most
 is_shadowed f _ (Queues v l p b u n h free) = queues f v l p b u n (is_set f v h).fragment (is_shadowed f v h) free
 is_shadowed f _ (Goes v room w h next may) = goes_on f v w (is_shadowed f v h) next
 is_shadowed f _ (Covers v x h none) = covers f v _ _ _ (is_shadowed f v h)

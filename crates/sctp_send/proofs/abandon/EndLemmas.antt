@@ -120,6 +120,7 @@ keeps_abandoned f s v t n k m off partial few none =
       resets = k.resets;
       before = k.before;
       counted = counted_gone f s v t n k m.waits m.named m.kept m.low m.high few;
+      limits = k.limits;
       reached = rw after at reached;
     })
 
@@ -207,6 +208,7 @@ keeps_ended f s v t n r tracks k m off partial few ends =
         resets = k.resets;
         before = k.before;
         counted = counted_gone f s v t n k m.waits m.named m.kept m.low m.high few;
+        limits = k.limits;
         reached = rw after at reached;
       }),
     )

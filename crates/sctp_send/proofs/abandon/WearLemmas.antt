@@ -79,7 +79,7 @@ none_worn_at test v i none = grind (arith, none)
 -- ---- index by index
 
 -- nothing is given up at an index that doesn't pass
-wear_off : (test : ℕ → Bool) (v : SenderView) (i : ℕ) → test i ≡ false → wear_one test v i ≡ v
+pub wear_off : (test : ℕ → Bool) (v : SenderView) (i : ℕ) → test i ≡ false → wear_one test v i ≡ v
 wear_off test v i off = ap (λ (b : Bool). if b && passes_at v.plan (λ j e. is_unsettled v j e && is_worn v j e) i then abandon_after v (ticket_at v i) else v) off
 
 -- nor at one that is covered
@@ -114,9 +114,10 @@ worn_more test v first at order =
     (ap (λ (n : ℕ). wear_one test (worn_to test v first (at - first)) (suc (n + at))) (sym cum))
 
 -- with all offsets that pass, all is worn that passes
-pub worn_all : (f : Format) (s : Kept) (v : SenderView) (test : ℕ → Bool) (from to first last : ℕ) → Keeps f s v → ((k : ℕ) → k < length s.items → (nat_le from k && nat_lt k to) ≡ test (suc (v.cum + k)))
+pub worn_all : (f : Format) (s : Kept) (v : SenderView) (says test : ℕ → Bool) (from to first last : ℕ) → Keeps f s v
+    → ((k : ℕ) → k < length s.items → ((nat_le from k && nat_lt k to) && says k) ≡ test (suc (v.cum + k)))
     → last ≡ min to (length s.items) → first ≡ min from last → worn_to test v first (last - first) ≡ worn test v
-worn_all f s v test from to first last k tells ends begins =
+worn_all f s v says test from to first last k tells ends begins =
     let long = kept_length f s v k in
     let many : length v.plan.entries ≡ (v.cum + first) + ((last - first) + (length s.items - last)) = omega (arith, long, ends, begins) in
     let one : 1 + (v.cum + first) ≡ suc (v.cum + first) = omega arith in
@@ -141,7 +142,8 @@ worn_all f s v test from to first last k tells ends begins =
           let at = j - suc v.cum in
           let less : at < first = omega (arith, hi, above) in
           let tested = tells at (omega (arith, less, begins, ends)) in
-          wear_off test v j (grind (arith, nat_tests, tested, less, begins, at_index j above))
+          let off : (nat_le from at && nat_lt at to) ≡ false = grind (arith, nat_tests) in
+          wear_off test v j (sym (at_index j above) ∙ sym tested ∙ ap (λ (b : Bool). b && says at) off)
     ]
 
     behind : (j : ℕ) → suc (v.cum + last) ≤ j → j < suc (v.cum + length s.items) → test j ≡ false
@@ -150,4 +152,5 @@ worn_all f s v test from to first last k tells ends begins =
         let above : v.cum < j = omega (arith, lo) in
         let past : last ≤ at = omega (arith, lo) in
         let within : at < length s.items = omega (arith, hi, above) in
-        grind (arith, nat_tests, tells at within, past, within, ends, at_index j above)
+        let off : (nat_le from at && nat_lt at to) ≡ false = grind (arith, nat_tests) in
+        sym (at_index j above) ∙ sym (tells at within) ∙ ap (λ (b : Bool). b && says at) off

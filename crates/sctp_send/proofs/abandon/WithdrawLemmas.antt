@@ -110,5 +110,6 @@ keeps_withdrawn f s v t k on =
       resets = k.resets;
       before = k.before;
       counted = counted_waiting f s v t Withdrawn k on refl;
+      limits = k.limits;
       reached = rw after at reached;
     })

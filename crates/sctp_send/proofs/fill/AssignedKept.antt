@@ -186,6 +186,7 @@ begun_kept f s v q rest d turn capacity room x k taken idle low first space =
       resets = k.resets;
       before = k.before ∙ sym (sent_above v.sent (suc (length v.plan.entries)) v.cum (omega (arith, count)));
       counted = counted_waiting f s v q.message.ticket Numbered k taken.was refl;
+      limits = k.limits;
       reached = Goes v room (newcomer v u) k.reached parts.0 parts.1;
     }
 
@@ -254,6 +255,7 @@ continued_kept f s v j turn capacity room e x k low on first space =
       resets = k.resets;
       before = k.before ∙ sym (sent_above v.sent (suc (length v.plan.entries)) v.cum (omega (arith, count)));
       counted = k.counted;
+      limits = k.limits;
       reached = Goes v room (newcomer v u) k.reached parts.0 parts.1;
     }
 

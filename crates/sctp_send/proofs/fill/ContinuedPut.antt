@@ -100,7 +100,7 @@ module _ (f : Format) (s : Kept) (v : SenderView) (old : Stock) (m : MessageFiel
 
   -- the fragment leaves room to count
   pub continued_few : suc fragment < 2 ^ 32
-  continued_few = few_fragments f v stream e k.reached left.on
+  continued_few = few_fragments f v stream e k.reached k.limits left.on
 
   -- its chunk
   continued_chunk : chunk_of f (newcomer v led) ≡ fragment_chunk f (base_of s.resets) s.fragment s.initial (suc (s.cum + length old.outstanding.items)) m number (Fragment fragment)

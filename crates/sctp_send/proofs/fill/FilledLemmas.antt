@@ -51,7 +51,7 @@ room_used f v u room (w ∷ ws) is =
 -- ---- step by step
 
 -- So many wishes went: their chunks are in the packet and counted, and the stock keeps what they leave.
-pub record IsSoFar (f : Format) (s : Kept) (v : SenderView) (p now : PacketDraft) (d : Stock) (steps n : ℕ) (r : Sendings) : Type 0 where
+pub record IsSoFar (f : Format) (s : Kept) (v : SenderView) (p now : PacketDraft) (d : Stock) (steps : ℕ) (r : Sendings) : Type 0 where
   pub wishes : List Wish
   pub view : SenderView
   pub from : IsReached f v
@@ -60,10 +60,10 @@ pub record IsSoFar (f : Format) (s : Kept) (v : SenderView) (p now : PacketDraft
   pub keeps : Keeps f (stocked s d) view
   pub told : numbers_of d.tickets.items ≡ newly_numbered v view
   pub many : length wishes ≡ steps
-  pub counts : r ≡ sendings_of n wishes
+  pub counts : r ≡ sendings_of wishes
 
-abbrev pub loop_init : (f : Format) (s : Kept) (v : SenderView) (p : PacketDraft) (d : Stock) (n : ℕ) (r : Sendings) → Keeps f (stocked s d) v → d.tickets.items ≡ [] → r ≡ sendings_of n [] → IsSoFar f s v p p d 0 n r
-loop_init f s v p d n r k none fresh = record {
+abbrev pub loop_init : (f : Format) (s : Kept) (v : SenderView) (p : PacketDraft) (d : Stock) (r : Sendings) → Keeps f (stocked s d) v → d.tickets.items ≡ [] → r ≡ sendings_of [] → IsSoFar f s v p p d 0 r
+loop_init f s v p d r k none fresh = record {
   wishes = [];
   view = v;
   from = k.reached;
@@ -76,18 +76,18 @@ loop_init f s v p d n r k none fresh = record {
 }
 
 -- the room at a step
-pub room_now : (f : Format) (s : Kept) (v : SenderView) (p now : PacketDraft) (d : Stock) (steps n : ℕ) (r : Sendings) → (x : IsSoFar f s v p now d steps n r) → room_in now ≡ room_after f (room_in p) x.wishes
-room_now f s v p now d steps n r x = ap room_in x.chunks ∙ room_left f p x.wishes
+pub room_now : (f : Format) (s : Kept) (v : SenderView) (p now : PacketDraft) (d : Stock) (steps : ℕ) (r : Sendings) → (x : IsSoFar f s v p now d steps r) → room_in now ≡ room_after f (room_in p) x.wishes
+room_now f s v p now d steps r x = ap room_in x.chunks ∙ room_left f p x.wishes
 
 -- chunks behind those that are there
 pub chunks_more : (f : Format) (p now later : PacketDraft) (ws xs : List Wish) → now ≡ with_chunks p (map (chunk_of f) ws) → later ≡ with_chunks now (map (chunk_of f) xs) → later ≡ with_chunks p (map (chunk_of f) (ws ++ xs))
 chunks_more f p now later ws xs here then =
     then ∙ ap (λ (y : PacketDraft). with_chunks y (map (chunk_of f) xs)) here ∙ chunks_joined p (map (chunk_of f) ws) (map (chunk_of f) xs) ∙ ap (with_chunks p) (sym (map-append (chunk_of f) ws xs))
 
-abbrev pub loop_more : (f : Format) (s : Kept) (v : SenderView) (p now later : PacketDraft) (old new : Stock) (steps n : ℕ) (r q : Sendings) → (x : IsSoFar f s v p now old steps n r) → steps < 65536 → IsPut f s x.view now later old new
-    → ((w : Wish) → next_wish f x.view ≡ Some w → q ≡ sent_more (w.view.sent w.index) w.index n r) → IsSoFar f s v p later new (steps + 1) n q
-loop_more f s v p now later old new steps n r q x few put counted =
-    let next : goes f (room_after f (room_in p) x.wishes) x.view ≡ Some put.wish = ap (λ (n : ℕ). goes f n x.view) (sym (room_now f s v p now old steps n r x)) ∙ put.next in
+abbrev pub loop_more : (f : Format) (s : Kept) (v : SenderView) (p now later : PacketDraft) (old new : Stock) (steps : ℕ) (r q : Sendings) → (x : IsSoFar f s v p now old steps r) → steps < 65536 → IsPut f s x.view now later old new
+    → ((w : Wish) → next_wish f x.view ≡ Some w → q ≡ sent_more (w.view.sent w.index) r) → IsSoFar f s v p later new (steps + 1) q
+loop_more f s v p now later old new steps r q x few put counted =
+    let next : goes f (room_after f (room_in p) x.wishes) x.view ≡ Some put.wish = ap (λ (n : ℕ). goes f n x.view) (sym (room_now f s v p now old steps r x)) ∙ put.next in
     record {
       wishes = x.wishes ++ put.wish ∷ [];
       view = gone put.wish;
@@ -100,23 +100,23 @@ loop_more f s v p now later old new steps n r q x few put counted =
       counts =
           let many = x.many in
           let wish = (goes_parts f (room_in now) x.view put.wish put.next).0 in
-          counted put.wish wish ∙ ap (sent_more (put.wish.view.sent put.wish.index) put.wish.index n) x.counts ∙ sym (one_sent n x.wishes put.wish (omega (arith, few, many)));
+          counted put.wish wish ∙ ap (sent_more (put.wish.view.sent put.wish.index)) x.counts ∙ sym (one_sent x.wishes put.wish (omega (arith, few, many)));
     }
 
 -- What holds at each step: the packet has its whole memory, the stock has parts of one size, each step takes room for one ticket at most, and so many
 -- wishes went.
-pub record IsFilledSoFar (f : Format) (s : Kept) (p now : PacketDraft) (old new : Stock) (steps n : ℕ) (r : Sendings) : Type 0 where
+pub record IsFilledSoFar (f : Format) (s : Kept) (p now : PacketDraft) (old new : Stock) (steps : ℕ) (r : Sendings) : Type 0 where
   pub reserved : now.space ≡ true
-  pub sized : IsSized s.fragment new
+  pub sized : IsSized f s.fragment new
   pub left : vec_capacity old.tickets + vec_len new.tickets ≤ vec_capacity new.tickets + steps
-  pub so_far : (v : SenderView) → Keeps f (stocked s old) v → IsSoFar f s v p now new steps n r
+  pub so_far : (v : SenderView) → Keeps f (stocked s old) v → IsSoFar f s v p now new steps r
 
 -- ---- the end
 
 -- the next wish may not go
-pub loop_stopped : (f : Format) (s : Kept) (v : SenderView) (p now : PacketDraft) (d : Stock) (steps n : ℕ) (r : Sendings) → (x : IsSoFar f s v p now d steps n r) → goes f (room_in now) x.view ≡ None → AllPut f s v p now d n r
-loop_stopped f s v p now d steps n r x stop =
-    let none : goes f (room_after f (room_in p) x.wishes) x.view ≡ None = ap (λ (m : ℕ). goes f m x.view) (sym (room_now f s v p now d steps n r x)) ∙ stop in
+pub loop_stopped : (f : Format) (s : Kept) (v : SenderView) (p now : PacketDraft) (d : Stock) (steps : ℕ) (r : Sendings) → (x : IsSoFar f s v p now d steps r) → goes f (room_in now) x.view ≡ None → AllPut f s v p now d r
+loop_stopped f s v p now d steps r x stop =
+    let none : goes f (room_after f (room_in p) x.wishes) x.view ≡ None = ap (λ (m : ℕ). goes f m x.view) (sym (room_now f s v p now d steps r x)) ∙ stop in
     record {
       wishes = x.wishes;
       view = x.view;
@@ -128,8 +128,8 @@ loop_stopped f s v p now d steps n r x stop =
     }
 
 -- no more go than there is room for
-pub loop_ends : (f : Format) (s : Kept) (v : SenderView) (p now : PacketDraft) (d : Stock) (steps n : ℕ) (r : Sendings) → IsSoFar f s v p now d steps n r → room_in p < 16 * steps → ⊥
-loop_ends f s v p now d steps n r x past =
+pub loop_ends : (f : Format) (s : Kept) (v : SenderView) (p now : PacketDraft) (d : Stock) (steps : ℕ) (r : Sendings) → IsSoFar f s v p now d steps r → room_in p < 16 * steps → ⊥
+loop_ends f s v p now d steps r x past =
     let used = room_used f v x.view (room_in p) x.wishes x.follows in
     let count = x.many in
     omega (arith, used, count, past)

@@ -91,5 +91,6 @@ keeps_gone f s v room at d k first low =
       resets = k.resets;
       before = k.before ∙ sym (sent_above v.sent (suc (v.cum + at)) v.cum (omega arith));
       counted = k.counted;
+      limits = k.limits;
       reached = Goes v room (standing v (suc (v.cum + at))) k.reached parts.0 parts.1;
     }

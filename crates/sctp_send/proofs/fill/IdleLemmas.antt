@@ -48,7 +48,7 @@ idle_ended p l n idle s = continued_more p (End l n) s ∙ by_stream (l.stream =
     by_stream false = idle s
 
 is_idle : (f : Format) (v : SenderView) → f ≡ Plain → IsReached f v → IsIdle v
-is_idle f _ plain (Begins i s b r p large) = λ j. refl
+is_idle f _ plain (Begins i s b r p most large) = λ j. refl
 is_idle f _ plain (Queues v l p b u n h free) = is_idle f v plain h
 is_idle f _ plain (Goes v room w h next may) =
     let k = is_idle f v plain h in

@@ -35,7 +35,7 @@ pub record IsPushed (old new : Stock) (had left : List (Arc MessageFields Global
 
 -- none came yet
 pub pushed_none : (d : Stock) (had : List (Arc MessageFields Global)) (number : ℕ) → IsPushed d d had had number 1
-pushed_none d had number = record { same = refl; items = λ size before m are is. is; owners = λ m are. are; many = refl; long = refl; room = record { size = refl; capacity = refl } }
+pushed_none d had number = record { same = refl; items = λ size before m are is. is; owners = λ m are. are; many = refl; long = refl; room = record { size = refl; header = refl; capacity = refl } }
 
 -- nothing is in part on a stream
 pub set_idle : (ts : List Track) (stream : ℕ) (rest : Option Rest) → rest ≡ None → has_rest (rest_at ts stream) ≡ false → ts ≡ set ts stream (left_track rest (track_of ts stream))

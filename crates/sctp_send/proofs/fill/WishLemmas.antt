@@ -84,7 +84,7 @@ none_offset v test on from (e ∷ es) h is k lt = by_test (test (item_here v fro
 split : (c j : ℕ) → c < j → suc c + (j - suc c) ≡ j
 split c j lt = omega arith
 
-lowest_offset : (f : Format) (s : Kept) (v : SenderView) (test : Item → Bool) (on : ℕ → Bool) (at : ℕ) → Keeps f s v → Agrees v test on (suc v.cum) (drop v.cum v.plan.entries)
+pub lowest_offset : (f : Format) (s : Kept) (v : SenderView) (test : Item → Bool) (on : ℕ → Bool) (at : ℕ) → Keeps f s v → Agrees v test on (suc v.cum) (drop v.cum v.plan.entries)
     → ((j : ℕ) → 0 < j → j ≤ v.cum → on j ≡ false) → first_offset test s.items ≡ Some at → lowest on (length v.plan.entries) ≡ Some (suc (v.cum + at))
 lowest_offset f s v test on at k h below is =
     let r = found_offset v test on (suc v.cum) at (drop v.cum v.plan.entries) h (ap (first_offset test) (sym k.holds.items) ∙ is) in
@@ -106,7 +106,7 @@ lowest_offset f s v test on at k h below is =
         let back = split v.cum j past in
         rw back at (before (j - suc v.cum) (omega arith))
 
-none_at_all : (f : Format) (s : Kept) (v : SenderView) (test : Item → Bool) (on : ℕ → Bool) → Keeps f s v → Agrees v test on (suc v.cum) (drop v.cum v.plan.entries)
+pub none_at_all : (f : Format) (s : Kept) (v : SenderView) (test : Item → Bool) (on : ℕ → Bool) → Keeps f s v → Agrees v test on (suc v.cum) (drop v.cum v.plan.entries)
     → ((j : ℕ) → 0 < j → j ≤ v.cum → on j ≡ false) → first_offset test s.items ≡ None → lowest on (length v.plan.entries) ≡ None
 none_at_all f s v test on k h below is = lowest_none on (length v.plan.entries) (λ j some le. by_cum j (nat_le j v.cum) refl some le)
   where
@@ -128,7 +128,7 @@ unsent_agree v k e here =
     let found : entry_at v.plan (suc v.cum + k) ≡ Some e = rw at_is there in
     sym (ap (some_passes (is_unsent v (suc v.cum + k))) found)
 
-none_marked : (f : Format) (v : SenderView) → IsBounded v → (j : ℕ) → 0 < j → j ≤ v.cum → v.marked j ≡ false
+pub none_marked : (f : Format) (v : SenderView) → IsBounded v → (j : ℕ) → 0 < j → j ≤ v.cum → v.marked j ≡ false
 none_marked f v b j some le = b.apart j (b.covered j some le)
 
 none_unsent : (v : SenderView) → IsBounded v → (j : ℕ) → 0 < j → j ≤ v.cum → passes_at v.plan (is_unsent v) j ≡ false

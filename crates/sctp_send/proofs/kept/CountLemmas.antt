@@ -4,9 +4,10 @@ use Rattle.std.specs.Prelude.{not, ◌&&◌, if◌then◌else◌}
 use Rattle.std.specs.List.{sum_by}
 use Rattle.std.proofs.lemmas.List.{length-map, length-set, map-append, map-set}
 use Rattle.std.proofs.lemmas.List.Sums.{sum_by-cons, sum_by_push, sum_by-set}
+use Rattle.sctp_model.specs.end.Control.{whole}
 use Rattle.sctp_send.specs.SenderKept.{Item}
 use Rattle.sctp_send.specs.OutstandingFields.{is_marked, item_meaning}
-use Rattle.sctp_send.specs.inner.Wishing.{first_offset, is_item_marked, is_item_unsent, item_bytes, item_weight, item_flight}
+use Rattle.sctp_send.specs.inner.Wishing.{first_offset, is_item_marked, is_item_unsent, item_bytes, item_weight, item_flight, item_chunk, item_chunks}
 use Rattle.sctp_send.specs.inner.Walks.{abandoned_items, is_item_unsettled}
 use Rattle.sctp_send.specs.inner.Changes.{unmarked, as_covered, as_uncovered}
 use Rattle.sctp_send.specs.inner.Newcomers.{one_if}
@@ -16,7 +17,7 @@ use Rattle.sctp_send.specs.declared.kept.entry.Standing.{Standing}
 use Rattle.sctp_send.specs.declared.kept.entry.Standing.TheVariants.{Unsent, Sent, Marked}
 use Rattle.sctp_send.specs.declared.kept.entry.Entry.{Entry as EntryFields}
 use Rattle.sctp_send.proofs.kept.ItemLemmas.{item_read}
-use Rattle.sctp_send.proofs.kept.WeightLemmas.{weight_small, one_small, flight_sum, unsettled_one, unsettled_sum}
+use Rattle.sctp_send.proofs.kept.WeightLemmas.{weight_small, chunk_small, one_small, flight_sum, chunk_sum, unsettled_one, unsettled_sum}
 use Rattle.sctp_send.proofs.kept.CursorLemmas.{lower_within, reach_within, none_reached, none_behind_first, none_set}
 use Rattle.sctp_send.proofs.kept.FrontLemmas.{front_pushed, front_stays}
 
@@ -48,11 +49,13 @@ counts_pushed size es e c h =
     record {
       some = h.some;
       small = h.small;
+      low = h.low;
       marked = rw more (none_reached is_item_marked items x c.marked (length es) long h.marked_within h.marked);
       marked_within = reach_within (is_item_marked x) c.marked (length es) (length (es ++ e ∷ [])) (let le = h.marked_within in omega arith) (omega (arith, longer));
       unsent = rw more (none_reached is_item_unsent items x c.unsent (length es) long h.unsent_within h.unsent);
       unsent_within = reach_within (is_item_unsent x) c.unsent (length es) (length (es ++ e ∷ [])) (let le = h.unsent_within in omega arith) (omega (arith, longer));
       flight = rw more (sum_pushed item_weight item_flight flight_sum items x c.flight h.flight);
+      chunks = rw more (sum_pushed (item_chunk c.header) (item_chunks c.header) (chunk_sum c.header) items x c.chunks h.chunks);
       unsettled = rw more (sum_pushed unsettled_one count_unsettled unsettled_sum items x c.unsettled h.unsettled);
       front = rw more (front_pushed items x c.front (length es) long h.front);
     }
@@ -67,11 +70,13 @@ counts_behind size e es c front h is =
     record {
       some = h.some;
       small = h.small;
+      low = h.low;
       marked = none_behind_first is_item_marked x items c.marked h.marked;
       marked_within = let le : c.marked ≤ suc (length es) = h.marked_within in omega arith;
       unsent = none_behind_first is_item_unsent x items c.unsent h.unsent;
       unsent_within = let le : c.unsent ≤ suc (length es) = h.unsent_within in omega arith;
       flight = sum_behind item_weight item_flight flight_sum x items c.flight (weight_small size e h.some h.small) h.flight;
+      chunks = sum_behind (item_chunk c.header) (item_chunks c.header) (chunk_sum c.header) x items c.chunks (chunk_small c.header size e h.low h.some h.small) h.chunks;
       unsettled = sum_behind unsettled_one count_unsettled unsettled_sum x items c.unsettled (one_small (is_item_unsettled x)) h.unsettled;
       front = is;
     }
@@ -92,11 +97,13 @@ counts_set size es at e new c front lt read h is =
     record {
       some = h.some;
       small = h.small;
+      low = h.low;
       marked = rw more (none_set is_item_marked items at c.marked y h.marked);
       marked_within = lower_within (is_item_marked y) c.marked at (length (set es at new)) (let le = h.marked_within in omega arith);
       unsent = rw more (none_set is_item_unsent items at c.unsent y h.unsent);
       unsent_within = lower_within (is_item_unsent y) c.unsent at (length (set es at new)) (let le = h.unsent_within in omega arith);
       flight = rw more (sum_set item_weight item_flight flight_sum items at x y c.flight within there (weight_small size e h.some h.small) h.flight);
+      chunks = rw more (sum_set (item_chunk c.header) (item_chunks c.header) (chunk_sum c.header) items at x y c.chunks within there (chunk_small c.header size e h.low h.some h.small) h.chunks);
       unsettled = rw more (sum_set unsettled_one count_unsettled unsettled_sum items at x y c.unsettled within there (one_small (is_item_unsettled x)) h.unsettled);
       front = is;
     }
@@ -114,6 +121,9 @@ covered_weight x on = ap (λ (b : Bool). if b then length (item_bytes x) else 0)
   where
     off : (not x.marked && (x.sent && (not x.covered && not x.abandoned))) ≡ false
     off = rw on (both_off (not x.marked) x.sent)
+
+covered_chunk : (header : ℕ) (x : Item) → x.covered ≡ true → item_chunk header x ≡ 0
+covered_chunk header x on = ap (whole header) (covered_weight x on)
 
 -- nor is it unsettled, or to go out
 covered_settled : (x : Item) → x.covered ≡ true → unsettled_one x ≡ 0
@@ -145,11 +155,13 @@ counts_covered size es at e c lt read h =
     record {
       some = h.some;
       small = h.small;
+      low = h.low;
       marked = subst (λ (b : Bool). first_offset is_item_marked (take (if b then min c.marked at else c.marked) (map (item_meaning size) (set es at (as_covered e)))) ≡ None) (never_marked e.standing) all.marked;
       marked_within = let le = h.marked_within in omega (arith, long, le);
       unsent = subst (λ (b : Bool). first_offset is_item_unsent (take (if b then min c.unsent at else c.unsent) (map (item_meaning size) (set es at (as_covered e)))) ≡ None) (covered_waits y refl) all.unsent;
       unsent_within = let le = h.unsent_within in omega (arith, long, le);
       flight = let is = all.flight in omega (arith, is, covered_weight y refl);
+      chunks = let is = all.chunks in omega (arith, is, covered_chunk c.header y refl);
       unsettled = let is = all.unsettled in omega (arith, is, covered_settled y refl);
       front = front;
     }
@@ -168,11 +180,13 @@ counts_uncovered size es at e c lt read on h =
     record {
       some = h.some;
       small = h.small;
+      low = h.low;
       marked = all.marked;
       marked_within = all.marked_within;
       unsent = all.unsent;
       unsent_within = all.unsent_within;
       flight = let is = all.flight in omega (arith, is, covered_weight x on);
+      chunks = let is = all.chunks in omega (arith, is, covered_chunk c.header x on);
       unsettled = let is = all.unsettled in omega (arith, is, covered_settled x on);
       front = front;
     }
@@ -182,9 +196,9 @@ counts_uncovered size es at e c lt read on h =
 pub counts_marked : (size : ℕ) (es : List EntryFields) (c : Counts) (at : ℕ) → at ≤ length es → first_offset is_item_marked (take at (map (item_meaning size) es)) ≡ None → IsCounted size es c
     → IsCounted size es (record c { marked = at })
 counts_marked size es c at within none h =
-    record { some = h.some; small = h.small; marked = none; marked_within = within; unsent = h.unsent; unsent_within = h.unsent_within; flight = h.flight; unsettled = h.unsettled; front = h.front }
+    record { some = h.some; small = h.small; low = h.low; marked = none; marked_within = within; unsent = h.unsent; unsent_within = h.unsent_within; flight = h.flight; chunks = h.chunks; unsettled = h.unsettled; front = h.front }
 
 pub counts_unsent : (size : ℕ) (es : List EntryFields) (c : Counts) (at : ℕ) → at ≤ length es → first_offset is_item_unsent (take at (map (item_meaning size) es)) ≡ None → IsCounted size es c
     → IsCounted size es (record c { unsent = at })
 counts_unsent size es c at within none h =
-    record { some = h.some; small = h.small; marked = h.marked; marked_within = h.marked_within; unsent = none; unsent_within = within; flight = h.flight; unsettled = h.unsettled; front = h.front }
+    record { some = h.some; small = h.small; low = h.low; marked = h.marked; marked_within = h.marked_within; unsent = none; unsent_within = within; flight = h.flight; chunks = h.chunks; unsettled = h.unsettled; front = h.front }

@@ -1,6 +1,7 @@
 -- Nothing before a cursor passes a test: as items come, go or change, and as a search goes on from there.
-use Rattle.std.proofs.Common.{◌≡◌, ℕ, zero, suc, ◌+◌, ◌-◌, ◌<◌, ◌≤◌, min, List, [], ◌∷◌, ◌++◌, length, map, take, get_or, set, Bool, true, false, Option, Some, None, refl, sym, ap, ◌∙◌, subst, arith, length-append}
-use Rattle.std.specs.Prelude.{option_map, if◌then◌else◌, not, ◌&&◌, ◌==◌}
+use Rattle.std.proofs.Common.{inl, inr, ◌≡◌, ℕ, zero, suc, ◌+◌, ◌-◌, ◌<◌, ◌≤◌, min, List, [], ◌∷◌, ◌++◌, length, map, take, get_or, set, Bool, true, false, Option, Some, None, refl, sym, ap, ◌∙◌, subst, arith, length-append}
+use Rattle.std.specs.Prelude.{option_map, is_some, nat_lt, if◌then◌else◌, not, ◌&&◌, ◌==◌}
+use Rattle.std.proofs.lemmas.Bool.{cases_lt}
 use Rattle.std.proofs.lemmas.List.{length-map, take_all, take_more, take-set-le}
 use Rattle.std.proofs.lemmas.Bool.Decides.{nat_tests}
 use Rattle.sctp_send.specs.SenderKept.{Item}
@@ -138,3 +139,11 @@ none_found test size es at le none =
     let items = map (item_meaning size) es in
     let all : take at items ≡ items = take_all at items (omega (arith, length-map es (item_meaning size))) in
     sym none ∙ ap (first_offset test) all
+
+-- whether a search from a cursor on found one
+pub search_found : (test : Item → Bool) (size : ℕ) (es : List EntryFields) (at : ℕ) → first_offset test (take at (map (item_meaning size) es)) ≡ None → (at < length es → Some at ≡ first_offset test (map (item_meaning size) es))
+    → nat_lt at (length es) ≡ is_some (first_offset test (map (item_meaning size) es))
+search_found test size es at none found = elim (cases_lt at (length es)) [
+  | inl lt ↦ let on : nat_lt at (length es) ≡ true = grind (arith, nat_tests) in on ∙ ap (λ (o : Option ℕ). is_some o) (found lt)
+  | inr le ↦ let off : nat_lt at (length es) ≡ false = grind (arith, nat_tests) in off ∙ ap (λ (o : Option ℕ). is_some o) (none_found test size es at le none)
+]

@@ -10,7 +10,7 @@ use Rattle.std.proofs.lemmas.List.Sums.{sum_by-le}
 use Rattle.sctp_model.specs.numbers.Limits.{LONGEST_MESSAGE, QUEUE_LIMIT}
 use Rattle.sctp_model.specs.numbers.Lists.{joined}
 use Rattle.sctp_model.specs.messages.Format.{Format}
-use Rattle.sctp_model.specs.sender.SenderView.{Queued, SenderView}
+use Rattle.sctp_model.specs.sender.SenderView.{Queued, SendLimits, SenderView}
 use Rattle.sctp_model.specs.sender.Assigning.{is_on, without_first}
 use Rattle.sctp_model.specs.sender.Queueing.{cut}
 use Rattle.sctp_model.specs.sender.Reached.{IsReached, Begins, Queues, Goes, Covers, Closes, Abandons, Repeats, Rebases}
@@ -35,59 +35,59 @@ waiting_is size ms some = is_sum_by (λ (ds : List (Arc MessageFields Global)). 
 -- ---- in a view
 
 -- a message isn't longer than may be
-abbrev IsLight : Queued → Type 0
-IsLight q = length (joined q.message.fragments) ≤ LONGEST_MESSAGE
+abbrev IsLight : (most : ℕ) → Queued → Type 0
+IsLight most q = length (joined q.message.fragments) ≤ most
 
 -- no more messages than may wait, and no longer ones
-record AreFew (qs : List Queued) : Type 0 where
+record AreFew (most : ℕ) (qs : List Queued) : Type 0 where
   many : length qs ≤ QUEUE_LIMIT
-  light : All IsLight qs
+  light : All (IsLight most) qs
 
-few_rest : (meant : Queued → Bool) (qs : List Queued) → AreFew qs → AreFew (without_first meant qs)
-few_rest meant qs h = record { many = let less = fewer qs in omega (arith, less, h.many); light = lighter qs h.light }
+few_rest : (most : ℕ) (meant : Queued → Bool) (qs : List Queued) → AreFew most qs → AreFew most (without_first meant qs)
+few_rest most meant qs h = record { many = let less = fewer qs in omega (arith, less, h.many); light = lighter qs h.light }
   where
     fewer : (xs : List Queued) → length (without_first meant xs) ≤ length xs
     fewer [] = omega arith
     fewer (x ∷ xs) = let rest = fewer xs in grind arith
 
-    lighter : (xs : List Queued) → All IsLight xs → All IsLight (without_first meant xs)
+    lighter : (xs : List Queued) → All (IsLight most) xs → All (IsLight most) (without_first meant xs)
     lighter [] light = light
-    lighter (x ∷ xs) light = by_test (meant x) (lighter xs (All-tail IsLight x xs light))
+    lighter (x ∷ xs) light = by_test (meant x) (lighter xs (All-tail (IsLight most) x xs light))
       where
-        by_test : (b : Bool) → All IsLight (without_first meant xs) → All IsLight (if b then xs else x ∷ without_first meant xs)
-        by_test true rest = All-tail IsLight x xs light
-        by_test false rest = All-cons IsLight x _ (light 0 x (omega arith)) rest
+        by_test : (b : Bool) → All (IsLight most) (without_first meant xs) → All (IsLight most) (if b then xs else x ∷ without_first meant xs)
+        by_test true rest = All-tail (IsLight most) x xs light
+        by_test false rest = All-cons (IsLight most) x _ (light 0 x (omega arith)) rest
 
-few_behind : (q : Queued) (qs : List Queued) → AreFew (q ∷ qs) → AreFew qs
-few_behind q qs h = record { many = let all = h.many in omega (arith, all); light = All-tail IsLight q qs h.light }
+few_behind : (most : ℕ) (q : Queued) (qs : List Queued) → AreFew most (q ∷ qs) → AreFew most qs
+few_behind most q qs h = record { many = let all = h.many in omega (arith, all); light = All-tail (IsLight most) q qs h.light }
 
 abbrev AreQueuedFew : SenderView → Type 0
-AreQueuedFew v = AreFew v.queue
+AreQueuedFew v = AreFew v.limits.message v.queue
 
 few_assigned : (f : Format) (v u : SenderView) → AreQueuedFew v → IsAssigned v f u → AreQueuedFew u
-few_assigned _ v _ h (Whole q rest is) = few_behind q rest (subst AreFew is h)
-few_assigned _ v _ h (Begun s q lt idle first) = few_rest (is_on s) v.queue h
+few_assigned _ v _ h (Whole q rest is) = few_behind v.limits.message q rest (subst (AreFew v.limits.message) is h)
+few_assigned _ v _ h (Begun s q lt idle first) = few_rest v.limits.message (is_on s) v.queue h
 few_assigned _ v _ h (Continued s e lt on) = h
 
 are_few : (f : Format) (v : SenderView) → IsReached f v → AreQueuedFew v
-are_few f _ (Begins i s b r p large) = record { many = omega arith; light = λ k d low. absurd (omega (arith, low)) }
+are_few f _ (Begins i s b r p most large) = record { many = omega arith; light = λ k d low. absurd (omega (arith, low)) }
 are_few f _ (Queues v l p b u x h free) =
     let k = are_few f v h in
     let a = accepted v l.stream b free in
     let bytes : length (joined (cut v.fragment b)) ≡ length b = ap (λ (bs : List ℕ). length bs) (joined_cut v.fragment b (is_set f v h).fragment) in
     record {
       many = let more = length-append v.queue (record { lane = l; message = record { ticket = suc v.tickets; payload = p; fragments = cut v.fragment b; until = u; limit = x } } ∷ []) in omega (arith, more, a.waits);
-      light = All-push IsLight v.queue _ k.light (omega (arith, bytes, a.short));
+      light = All-push (IsLight v.limits.message) v.queue _ k.light (omega (arith, bytes, a.short));
     }
 are_few f _ (Goes v room w h next may) = after_wish AreQueuedFew f v w (are_few f v h) (λ u a. few_assigned f v u (are_few f v h) a) (λ u i k. k) next
 are_few f _ (Covers v x h none) = are_few f v h
 are_few f _ (Closes v x h none) = are_few f v h
-are_few f _ (Abandons v t h) = let k = are_few f v h in after_abandon AreQueuedFew v t k (λ on. few_rest _ v.queue k) (λ n is kept. k)
+are_few f _ (Abandons v t h) = let k = are_few f v h in after_abandon AreQueuedFew v t k (λ on. few_rest v.limits.message _ v.queue k) (λ n is kept. k)
 are_few f _ (Repeats v test h) = are_few f v h
 are_few f _ (Rebases v x h) = are_few f v h
 
-light_sum : (qs : List Queued) → All IsLight qs → waiting_bytes qs ≤ length qs * LONGEST_MESSAGE
-light_sum qs h = rw (is_sum_by waiting_bytes (λ q. length (joined q.message.fragments)) refl (λ q qs. refl) qs) (sum_by-le (λ q. length (joined q.message.fragments)) LONGEST_MESSAGE qs h)
+light_sum : (most : ℕ) (qs : List Queued) → All (IsLight most) qs → waiting_bytes qs ≤ length qs * most
+light_sum most qs h = rw (is_sum_by waiting_bytes (λ q. length (joined q.message.fragments)) refl (λ q qs. refl) qs) (sum_by-le (λ q. length (joined q.message.fragments)) most qs h)
 
 -- ---- what is told of them
 
@@ -100,8 +100,8 @@ queued_fits f s v k = let same = queued_is f s v k in let few = (are_few f v k.r
 -- so few that the count in 64 bits is exact
 pub queued_bytes_fit : (f : Format) (s : Kept) (v : SenderView) → Keeps f s v → queued_bytes v ≤ QUEUE_LIMIT * LONGEST_MESSAGE
 queued_bytes_fit f s v k =
-    let few = are_few f v k.reached in
-    let sum = light_sum v.queue few.light in
+    let few = subst (λ (l : SendLimits). AreFew l.message v.queue) k.limits (are_few f v k.reached) in
+    let sum = light_sum LONGEST_MESSAGE v.queue few.light in
     let many = few.many in
     omega (arith, sum, many)
 

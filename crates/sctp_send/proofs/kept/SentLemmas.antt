@@ -3,8 +3,9 @@ use Rattle.std.proofs.Common.{◌≡◌, ℕ, suc, ◌+◌, ◌<◌, List, lengt
 use Rattle.std.specs.Prelude.{not, ◌&&◌, ◌==◌, if◌then◌else◌}
 use Rattle.std.proofs.lemmas.Bool.Decides.{nat_tests}
 use Rattle.std.proofs.lemmas.List.{length-map, length-set, map-set, get_or-set_same, get_or_default}
+use Rattle.sctp_model.specs.end.Control.{whole}
 use Rattle.sctp_send.specs.OutstandingFields.{was_sent, item_meaning}
-use Rattle.sctp_send.specs.inner.Wishing.{first_offset, is_item_unsent, item_weight}
+use Rattle.sctp_send.specs.inner.Wishing.{first_offset, is_item_unsent, item_weight, item_chunk}
 use Rattle.sctp_send.specs.inner.Walks.{abandoned_items}
 use Rattle.sctp_send.specs.inner.Counting.{entered, furthest, IsCounted}
 use Rattle.sctp_send.specs.inner.Newcomers.{repeats_after}
@@ -51,6 +52,9 @@ first_plain e h = record { out = refl; covers = h.covers; kept = h.kept }
 weightless : (size : ℕ) (e : EntryFields) → IsFirst e → item_weight (item_meaning size e) ≡ 0
 weightless size e h = rw h.out refl
 
+chunkless : (header size : ℕ) (e : EntryFields) → IsFirst e → item_chunk header (item_meaning size e) ≡ 0
+chunkless header size e h = ap (whole header) (weightless size e h)
+
 uncounted : (size : ℕ) (e : EntryFields) → IsFirst e → unsettled_one (item_meaning size e) ≡ 0
 uncounted size e h = rw h.out refl
 
@@ -74,11 +78,13 @@ counts_sent size es at e c lt read is h =
     record {
       some = h.some;
       small = h.small;
+      low = h.low;
       marked = all.marked;
       marked_within = all.marked_within;
       unsent = further now new low here refl c.unsent all.unsent;
       unsent_within = let le = h.unsent_within in reach_within false c.unsent at (length now) (omega (arith, le, long)) (omega (arith, low));
       flight = let sum = all.flight in omega (arith, sum, weightless size e is);
+      chunks = let sum = all.chunks in omega (arith, sum, chunkless c.header size e is);
       unsettled = let sum = all.unsettled in omega (arith, sum, uncounted size e is);
       front = front;
     }

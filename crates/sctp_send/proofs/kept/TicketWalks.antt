@@ -161,13 +161,14 @@ all_are_abandoned t (e ∷ es) each = rw (each 0 e refl, all_are_abandoned t es 
 -- ---- what is outstanding
 
 -- other counts of the same entries
-pub recounted : (size : ℕ) (es : List EntryFields) (capacity : ℕ) (c d : Counts) (o : ByTicket) (room : ℕ) (ss : List Stretch) → IsCounted size es d → IsInOrder size es capacity c o room ss → IsInOrder size es capacity d o room ss
-recounted size es capacity c d o room ss counted h = record { counted = counted; order = h.order; within = h.within; here = h.here; there = h.there; known = h.known }
+pub recounted : (size : ℕ) (es : List EntryFields) (capacity : ℕ) (c d : Counts) (o : ByTicket) (room : ℕ) (ss : List Stretch) → IsCounted size es d → d.header ≡ c.header → IsInOrder size es capacity c o room ss → IsInOrder size es capacity d o room ss
+recounted size es capacity c d o room ss counted header h =
+    record { counted = counted; order = h.order; within = h.within; here = h.here; there = h.there; known = subst (λ (n : ℕ). AreKnown n size o.first ss es) (sym header) h.known }
 
 -- an entry changes, of whose stretch nothing is said
 pub entry_changed : {size capacity kept room i : ℕ} {es now : List EntryFields} {c d : Counts} {o : ByTicket} {ss rest : List Stretch} (at : ℕ) (f : EntryFields → EntryFields) → ((e : EntryFields) → ticket_of (f e) ≡ ticket_of e)
-    → now ≡ changed_at f at es → IsCounted size now d → kept ≡ capacity → i ≡ index_at o.first at → SayTheSame i rest ss → SayNothing i rest → IsInOrder size es capacity c o room ss → IsInOrder size now kept d o room rest
-entry_changed {size} {capacity} {kept} {room} {i} {es} {now} {c} {d} {o} {ss} {rest} at f stays items counted same is others here h =
+    → now ≡ changed_at f at es → IsCounted size now d → d.header ≡ c.header → kept ≡ capacity → i ≡ index_at o.first at → SayTheSame i rest ss → SayNothing i rest → IsInOrder size es capacity c o room ss → IsInOrder size now kept d o room rest
+entry_changed {size} {capacity} {kept} {room} {i} {es} {now} {c} {d} {o} {ss} {rest} at f stays items counted header same is others here h =
     let long : length now ≡ length es = ap (λ (xs : List EntryFields). length xs) items ∙ count_changed f at es in
     record {
       counted = counted;
@@ -175,6 +176,7 @@ entry_changed {size} {capacity} {kept} {room} {i} {es} {now} {c} {d} {o} {ss} {r
       within = let le = h.within in omega (arith, long, le);
       here = let le = h.here in omega (arith, same, le);
       there = h.there;
-      known = subst (λ (xs : List EntryFields). AreKnown size o.first rest xs) (sym items)
-          (known_changed size o.first at f ss rest es (subst (λ (n : ℕ). SayTheSame n rest ss) is others) (subst (λ (n : ℕ). SayNothing n rest) is here) h.known);
+      known = subst (λ (xs : List EntryFields). AreKnown d.header size o.first rest xs) (sym items)
+          (subst (λ (n : ℕ). AreKnown n size o.first rest (changed_at f at es)) (sym header)
+          (known_changed c.header size o.first at f ss rest es (subst (λ (n : ℕ). SayTheSame n rest ss) is others) (subst (λ (n : ℕ). SayNothing n rest) is here) h.known));
     }

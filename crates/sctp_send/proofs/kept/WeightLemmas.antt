@@ -6,9 +6,10 @@ use Rattle.std.proofs.lemmas.Bool.Decides.{nat_tests}
 use Rattle.std.proofs.lemmas.List.{length-map}
 use Rattle.std.proofs.lemmas.List.Sums.{sum_by-cons}
 use Rattle.sctp_model.specs.sender.Entries.{bytes_in}
+use Rattle.sctp_model.specs.end.Control.{whole}
 use Rattle.sctp_send.specs.SenderKept.{Item}
 use Rattle.sctp_send.specs.OutstandingFields.{lane_meaning, message_meaning, entry_meaning, item_meaning}
-use Rattle.sctp_send.specs.inner.Wishing.{item_bytes, item_weight, item_flight}
+use Rattle.sctp_send.specs.inner.Wishing.{item_bytes, item_weight, item_flight, item_chunk, item_chunks}
 use Rattle.sctp_send.specs.inner.Walks.{is_item_unsettled, any_unsettled}
 use Rattle.sctp_send.specs.inner.Newcomers.{one_if}
 use Rattle.sctp_send.specs.inner.Counting.{count_unsettled}
@@ -57,6 +58,30 @@ flight_bound size (e ∷ es) some small =
 pub flight_sum : (xs : List Item) → item_flight xs ≡ sum_by item_weight xs
 flight_sum [] = refl
 flight_sum (x ∷ xs) = ap (λ (n : ℕ). item_weight x + n) (flight_sum xs) ∙ sym (sum_by-cons item_weight x xs)
+
+-- ---- chunks in flight
+
+-- a chunk is no longer than its header and its data, padded
+pub whole_short : (header many : ℕ) → header < 2 ^ 16 → many < 2 ^ 16 → whole header many ≤ 131072
+whole_short header many small few = grind (arith, nat_tests, small, few)
+
+pub chunk_short : (header size : ℕ) (e : EntryFields) → header < 2 ^ 16 → 0 < size → size < 2 ^ 16 → item_chunk header (item_meaning size e) ≤ 131072
+chunk_short header size e low some small = whole_short header (item_weight (item_meaning size e)) low (let le = weight_short size e some in omega (arith, le, small))
+
+pub chunk_small : (header size : ℕ) (e : EntryFields) → header < 2 ^ 16 → 0 < size → size < 2 ^ 16 → item_chunk header (item_meaning size e) ≤ 2 ^ 64
+chunk_small header size e low some small = let le = chunk_short header size e low some small in omega (arith, le)
+
+-- so few bytes of chunks are in flight
+pub chunks_bound : (header size : ℕ) (es : List EntryFields) → header < 2 ^ 16 → 0 < size → size < 2 ^ 16 → item_chunks header (map (item_meaning size) es) ≤ length es * 131072
+chunks_bound header size [] low some small = omega arith
+chunks_bound header size (e ∷ es) low some small =
+    let one = chunk_short header size e low some small in
+    let rest = chunks_bound header size es low some small in
+    omega (arith, one, rest)
+
+pub chunk_sum : (header : ℕ) (xs : List Item) → item_chunks header xs ≡ sum_by (item_chunk header) xs
+chunk_sum header [] = refl
+chunk_sum header (x ∷ xs) = ap (λ (n : ℕ). item_chunk header x + n) (chunk_sum header xs) ∙ sym (sum_by-cons (item_chunk header) x xs)
 
 -- ---- unsettled entries
 

@@ -39,7 +39,7 @@ sound v x none = record { fresh = grind (arith, none); within = grind (arith, no
 shifted : (c n j : ℕ) → nat_le (c + j) (c + n) ≡ nat_le j n
 shifted c n j = grind (arith, nat_tests)
 
-shifted_blocks : (c n j : ℕ) (bs : List BlockMeaning) → in_blocks (c + n) bs (c + j) ≡ in_blocks n bs j
+pub shifted_blocks : (c n j : ℕ) (bs : List BlockMeaning) → in_blocks (c + n) bs (c + j) ≡ in_blocks n bs j
 shifted_blocks c n j [] = refl
 shifted_blocks c n j (b ∷ bs) = grind (arith, nat_tests, shifted_blocks c n j bs)
 

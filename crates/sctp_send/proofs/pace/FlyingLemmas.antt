@@ -7,7 +7,7 @@ use Rattle.sctp_send.specs.declared.pace.tally.Tally.{Tally}
 use Rattle.sctp_send.specs.OutstandingFields.{item_meaning}
 use Rattle.sctp_send.specs.declared.kept.entry.Entry.{Entry as EntryFields}
 use Rattle.sctp_send.proofs.pace.HereLemmas.{here_read}
-use Rattle.sctp_send.specs.inner.Wishing.{first_offset, is_item_marked, item_flight}
+use Rattle.sctp_send.specs.inner.Wishing.{first_offset, is_item_marked, item_chunks}
 use Rattle.sctp_send.specs.inner.Weighing.{is_item_news, passes_here, is_news, news_weight, AreFlying, IsTally}
 
 -- the first summand of a sum apart
@@ -15,12 +15,12 @@ pub sum_shift : (h : ℕ → ℕ) (n : ℕ) → sum_below h (suc n) ≡ h 0 + su
 sum_shift h zero = omega arith
 sum_shift h (suc n) = let rest = sum_shift h n in omega (arith, rest)
 
--- so the bytes are those in flight
-pub sum_flying : (xs : List Item) (on : ℕ → Bool) → first_offset is_item_marked xs ≡ None → ((j : ℕ) → 0 < j → j ≤ length xs → on j ≡ true) → sum_below (news_weight xs on) (length xs) ≡ item_flight xs
-sum_flying [] on none all = refl
-sum_flying (x ∷ xs) on none all =
-    let rest = sum_flying xs (λ k. on (suc k)) (grind (arith, none)) (λ j lo hi. all (suc j) (omega arith) (omega (arith, hi))) in
-    grind (arith, sum_shift (news_weight (x ∷ xs) on) (length xs), rest, all 1, none)
+-- so the bytes of chunks are those in flight
+pub sum_flying : (header : ℕ) (xs : List Item) (on : ℕ → Bool) → first_offset is_item_marked xs ≡ None → ((j : ℕ) → 0 < j → j ≤ length xs → on j ≡ true) → sum_below (news_weight header xs on) (length xs) ≡ item_chunks header xs
+sum_flying header [] on none all = refl
+sum_flying header (x ∷ xs) on none all =
+    let rest = sum_flying header xs (λ k. on (suc k)) (grind (arith, none)) (λ j lo hi. all (suc j) (omega arith) (omega (arith, hi))) in
+    grind (arith, sum_shift (news_weight header (x ∷ xs) on) (length xs), rest, all 1, none)
 
 -- the last of them is the newest
 last_flying : (xs : List Item) (on : ℕ → Bool) (n : ℕ) → on (suc n) ≡ true → passes_here is_item_news xs n ≡ true → last_that (is_news xs on) (suc n) ≡ suc n
@@ -29,15 +29,15 @@ last_flying xs on n here last =
     let news : is_news xs on (suc n) ≡ true = rw (one, here, last) refl in
     rw news refl
 
-pub tally_flying : (xs : List Item) (on : ℕ → Bool) (t : Tally) (count : ℕ) → AreFlying count xs → t.at ≡ count → t.newest ≡ count → t.bytes ≡ item_flight xs % 2 ^ 64 → ((j : ℕ) → 0 < j → j ≤ count → on j ≡ true) → IsTally xs on t
-tally_flying xs on t count h at newest bytes all =
+pub tally_flying : (header : ℕ) (xs : List Item) (on : ℕ → Bool) (t : Tally) (count : ℕ) → AreFlying count xs → t.at ≡ count → t.newest ≡ count → t.bytes ≡ item_chunks header xs % 2 ^ 64 → ((j : ℕ) → 0 < j → j ≤ count → on j ≡ true) → IsTally header xs on t
+tally_flying header xs on t count h at newest bytes all =
     let some = h.some in
     let many = h.all in
     let next : count ≡ suc (count - 1) = omega (arith, some) in
     let every : (j : ℕ) → 0 < j → j ≤ length xs → on j ≡ true = λ j lo hi. all j lo (omega (arith, hi, many)) in
     let top : last_that (is_news xs on) (suc (count - 1)) ≡ suc (count - 1) = last_flying xs on (count - 1) (all (suc (count - 1)) (omega arith) (omega (arith, some))) h.last in
     record {
-      bytes = bytes ∙ ap (λ (n : ℕ). n % 2 ^ 64) (sym (sum_flying xs on h.unmarked every) ∙ ap (sum_below (news_weight xs on)) (sym (at ∙ many)));
+      bytes = bytes ∙ ap (λ (n : ℕ). n % 2 ^ 64) (sym (sum_flying header xs on h.unmarked every) ∙ ap (sum_below (news_weight header xs on)) (sym (at ∙ many)));
       last = newest ∙ (next ∙ (sym top ∙ ap (last_that (is_news xs on)) (sym (at ∙ next))));
     }
 

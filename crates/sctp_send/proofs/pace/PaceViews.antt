@@ -1,22 +1,18 @@
 -- What a view says of an index above CUM, by the item that is kept of it; the first index in flight, and what isn't timed any more.
-use Rattle.std.proofs.Common.{inl, inr, ◌≡◌, ℕ, zero, suc, ◌+◌, ◌-◌, ◌*◌, ◌%◌, ◌^◌, ◌<◌, ◌≤◌, ◌∙◌, List, [], ◌∷◌, length, drop, Bool, true, false, Option, Some, None, refl, sym, ap, subst, arith}
-use Rattle.std.specs.Prelude.{nat_le, nat_lt, ◌&&◌, ◌||◌, slice_get, option_map}
-use Rattle.std.proofs.lemmas.Bool.{cases_lt}
-use Rattle.std.proofs.lemmas.Bool.Decides.{nat_tests}
+use Rattle.std.proofs.Common.{◌≡◌, ℕ, zero, suc, ◌+◌, ◌-◌, ◌*◌, ◌%◌, ◌^◌, ◌<◌, ◌≤◌, ◌∙◌, List, [], ◌∷◌, length, drop, Bool, true, false, Option, Some, None, refl, sym, ap, arith}
+use Rattle.std.specs.Prelude.{◌||◌, slice_get, option_map}
 use Rattle.sctp_model.specs.messages.Format.{Format}
 use Rattle.sctp_model.specs.messages.Plan.{Entry, entry_at}
 use Rattle.sctp_model.specs.sender.SenderView.{SenderView}
 use Rattle.sctp_model.specs.sender.Words.{some_passes}
-use Rattle.sctp_model.specs.sender.Entries.{is_in_flight, in_flight, passes_at}
-use Rattle.sctp_model.proofs.sender.WordLaws.{lowest_found, lowest_none}
+use Rattle.sctp_model.specs.sender.Entries.{in_flight}
 use Rattle.sctp_model.proofs.sender.PointLaws.{get-drop}
-use Rattle.sctp_model.proofs.sender.Bounds.{IsBounded, is_bounded}
+use Rattle.sctp_model.proofs.sender.Bounds.{is_bounded}
 use Rattle.sctp_model.proofs.sender.OwedLaws.{is_promised, is_windowed}
 use Rattle.sctp_send.specs.SenderKept.{Item, Kept}
 use Rattle.sctp_send.specs.SenderStands.{item_here, items_from, Keeps}
-use Rattle.sctp_send.specs.PaceAnswers.{first_in_flight}
 use Rattle.sctp_send.specs.inner.Wishing.{item_flight}
-use Rattle.sctp_send.specs.inner.Weighing.{is_item_flying, is_item_done, passes_here, FirstAnswer}
+use Rattle.sctp_send.specs.inner.Weighing.{is_item_done, passes_here}
 use Rattle.sctp_send.proofs.KeepLemmas.{kept_length}
 use Rattle.sctp_send.proofs.fill.RoomLemmas.{flight_kept}
 
@@ -45,47 +41,6 @@ passing_within test [] k on = absurd (cc)
 passing_within test (x ∷ xs) zero on = omega arith
 passing_within test (x ∷ xs) (suc k) on = let lt = passing_within test xs k on in omega (arith, lt)
 
--- ---- the first in flight
-
--- the test of an index for `first_in_flight`
-abbrev On : SenderView → (from below : ℕ) → ℕ → Bool
-On v from below = passes_at v.plan (λ i e. (nat_le from i && nat_lt i below) && is_in_flight v i e)
-
-on_above : (f : Format) (s : Kept) (v : SenderView) (from below k : ℕ) → Keeps f s v → On v from below (suc (v.cum + k)) ≡ ((nat_le from (suc (v.cum + k)) && nat_lt (suc (v.cum + k)) below) && passes_here is_item_flying s.items k)
-on_above f s v from below k h = grind (arith, kept_passes f s v is_item_flying k h)
-
-on_below : (v : SenderView) (from below j : ℕ) → IsBounded v → 0 < j → j ≤ v.cum → On v from below j ≡ false
-on_below v from below j h some le = grind (arith, h.covered j some le)
-
-on_off : (f : Format) (s : Kept) (v : SenderView) (from below k : ℕ) → Keeps f s v → (from - v.cum - 1 ≤ k → k < below - v.cum - 1 → passes_here is_item_flying s.items k ≡ false) → On v from below (suc (v.cum + k)) ≡ false
-on_off f s v from below k h off = grind (arith, nat_tests, on_above f s v from below k h, off)
-
--- no index passes of which that is so
-all_off : (f : Format) (s : Kept) (v : SenderView) (from below j : ℕ) → Keeps f s v → 0 < j → ((k : ℕ) → suc (v.cum + k) ≡ j → from - v.cum - 1 ≤ k → k < below - v.cum - 1 → passes_here is_item_flying s.items k ≡ false) → On v from below j ≡ false
-all_off f s v from below j h some off = elim (cases_lt v.cum j) [
-  | inl past ↦
-      let is : suc (v.cum + (j - suc v.cum)) ≡ j = omega (arith, past) in
-      subst (λ (m : ℕ). On v from below m ≡ false) is (on_off f s v from below (j - suc v.cum) h (off (j - suc v.cum) is))
-  | inr low ↦ on_below v from below j (is_bounded f v h.reached) some low
-]
-
-pub first_is : (f : Format) (s : Kept) (v : SenderView) (from below : ℕ) (o : Option ℕ) → Keeps f s v → FirstAnswer (passes_here is_item_flying s.items) (from - v.cum - 1) (below - v.cum - 1) o
-    → option_map (λ at. suc (v.cum + at)) o ≡ first_in_flight v from below
-first_is f s v from below None h off = sym (lowest_none (On v from below) (length v.plan.entries) (λ j some le. all_off f s v from below j h some (λ k is lo hi. off k lo hi)))
-first_is f s v from below (Some at) h first =
-    let above = first.above in
-    let under = first.below in
-    let long = kept_length f s v h in
-    let low = passing_within is_item_flying s.items at first.passes in
-    let lo : nat_le from (suc (v.cum + at)) ≡ true = grind (arith, nat_tests) in
-    let hi : nat_lt (suc (v.cum + at)) below ≡ true = grind (arith, nat_tests) in
-    sym (lowest_found (On v from below) (length v.plan.entries) (suc (v.cum + at)) (record {
-      some = omega arith;
-      within = omega (arith, long, low);
-      passes = on_above f s v from below at h ∙ rw (lo, hi) first.passes;
-      first = λ j some lt. all_off f s v from below j h some (λ k is lo hi. first.before k lo (omega (arith, is, lt)));
-    }))
-
 -- indexes fit their bits
 pub index_fits : (f : Format) (s : Kept) (v : SenderView) (at : ℕ) → Keeps f s v → at < length s.items → (s.cum + at + 1) % 2 ^ 64 ≡ suc (v.cum + at)
 index_fits f s v at h low =
@@ -93,21 +48,6 @@ index_fits f s v at h low =
     let most = is_promised f v h.reached in
     let cum = h.holds.cum in
     omega (arith, long, low, most, cum)
-
--- the first in flight, as the code finds it
-pub first_told : (f : Format) (s : Kept) (v : SenderView) (from below lo hi : ℕ) (xs : List Item) (o : Option ℕ) → Keeps f s v → xs ≡ s.items → lo ≡ from - s.cum - 1 → hi ≡ below - s.cum - 1
-    → FirstAnswer (passes_here is_item_flying xs) lo hi o → option_map (λ at. (s.cum + at + 1) % 2 ^ 64) o ≡ first_in_flight v from below
-first_told f s v from below lo hi xs o h items low high first = by_option o here ∙ first_is f s v from below o h here
-  where
-    here : FirstAnswer (passes_here is_item_flying s.items) (from - v.cum - 1) (below - v.cum - 1) o
-    here =
-        subst (λ (ys : List Item). FirstAnswer (passes_here is_item_flying ys) (from - v.cum - 1) (below - v.cum - 1) o) items
-        (subst (λ (n : ℕ). FirstAnswer (passes_here is_item_flying xs) n (below - v.cum - 1) o) (low ∙ ap (λ (c : ℕ). from - c - 1) h.holds.cum)
-        (subst (λ (n : ℕ). FirstAnswer (passes_here is_item_flying xs) lo n o) (high ∙ ap (λ (c : ℕ). below - c - 1) h.holds.cum) first))
-
-    by_option : (p : Option ℕ) → FirstAnswer (passes_here is_item_flying s.items) (from - v.cum - 1) (below - v.cum - 1) p → option_map (λ at. (s.cum + at + 1) % 2 ^ 64) p ≡ option_map (λ at. suc (v.cum + at)) p
-    by_option None none = refl
-    by_option (Some at) some = ap Some (index_fits f s v at h (passing_within is_item_flying s.items at some.passes))
 
 -- ---- what is said of an index, from 1 on above CUM
 

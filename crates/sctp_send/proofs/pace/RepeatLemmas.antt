@@ -56,7 +56,7 @@ repeats_none f room [] none = refl
 repeats_none f room (x ∷ xs) none = grind (arith, repeats_none f room xs)
 
 -- a chunk takes some room
-room_some : (f : Format) (x : Item) → 0 < item_room f x
+pub room_some : (f : Format) (x : Item) → 0 < item_room f x
 room_some Plain x = omega arith
 room_some Interleaved x = omega arith
 
@@ -72,14 +72,14 @@ repeats_first f room at (x ∷ xs) d is = grind (arith, λ (k : ℕ). repeats_fi
 
 -- ---- wish by wish
 
-no_item : Item
+pub no_item : Item
 no_item = record { entry = End (ordered_lane 0) 0; message = None; sent = false; marked = false; covered = false; abandoned = false; repeats = 0 }
 
 room_said : (f : Format) (base : Lane → ℕ) (initial i : ℕ) (x : Item) → size_of_chunk (said_chunk f base initial i x.entry x.message) ≡ item_room f x
 room_said Plain base initial i x = refl
 room_said Interleaved base initial i x = refl
 
-room_standing : (f : Format) (s : Kept) (v : SenderView) (at : ℕ) → Keeps f s v → at < length s.items → room_of f (standing v (suc (v.cum + at))) ≡ item_room f (get_or s.items at no_item)
+pub room_standing : (f : Format) (s : Kept) (v : SenderView) (at : ℕ) → Keeps f s v → at < length s.items → room_of f (standing v (suc (v.cum + at))) ≡ item_room f (get_or s.items at no_item)
 room_standing f s v at k low = ap size_of_chunk (chunk_standing f s v at no_item k low) ∙ room_said f (base_of s.resets) s.initial (suc (s.cum + at)) (get_or s.items at no_item)
 
 -- what isn't a retransmission counts as nothing

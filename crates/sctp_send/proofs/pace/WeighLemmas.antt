@@ -6,6 +6,7 @@ use Rattle.std.proofs.lemmas.Bool.{cases_lt}
 use Rattle.std.proofs.lemmas.Bool.Decides.{nat_tests}
 use Rattle.std.proofs.lemmas.Option.{slice_get_past}
 use Rattle.sctp_model.specs.messages.Format.{Format}
+use Rattle.sctp_model.specs.messages.Framing.{header_of}
 use Rattle.sctp_model.specs.messages.Plan.{Entry, entry_at}
 use Rattle.sctp_model.specs.sender.SenderView.{SenderView}
 use Rattle.sctp_model.specs.sender.Words.{some_passes, sum_below, last_that}
@@ -25,9 +26,9 @@ use Rattle.sctp_send.specs.OutstandingFields.{item_meaning}
 use Rattle.sctp_send.specs.declared.kept.entry.Entry.{Entry as EntryFields}
 use Rattle.sctp_send.specs.declared.pace.tally.Tally.{Tally}
 use Rattle.sctp_send.specs.declared.pace.weight.Weight.{Weight}
-use Rattle.sctp_send.specs.inner.Weighing.{is_item_open, is_item_news, unsettled_bytes, is_news, news_weight, IsIdle, IsTallied, IsAfter, index_above}
+use Rattle.sctp_send.specs.inner.Weighing.{is_item_open, is_item_news, unsettled_bytes, unsettled_chunk, is_news, news_weight, IsIdle, IsTallied, IsAfter, index_above}
 use Rattle.sctp_send.proofs.KeepLemmas.{kept_length}
-use Rattle.sctp_send.proofs.kept.WeightLemmas.{bytes_short}
+use Rattle.sctp_send.proofs.kept.WeightLemmas.{bytes_short, whole_short}
 use Rattle.sctp_send.proofs.pace.PaceViews.{kept_get, index_is}
 use Rattle.sctp_send.proofs.pace.SentLemmas.{last_low}
 use Rattle.sctp_send.proofs.pace.FlyingLemmas.{sum_shift}
@@ -40,40 +41,46 @@ idle_past : (xs : List Item) (on : ℕ → Bool) (j : ℕ) → length xs < j →
 idle_past xs on j lt = idle_closed xs on j (ap (some_passes is_item_open) (slice_get_past xs (j - 1) (omega (arith, lt))))
 
 -- the tally is that of all items
-record IsAll (xs : List Item) (on : ℕ → Bool) (t : Tally) : Type 0 where
-  bytes : t.bytes ≡ sum_below (news_weight xs on) (length xs) % 2 ^ 64
+record IsAll (header : ℕ) (xs : List Item) (on : ℕ → Bool) (t : Tally) : Type 0 where
+  bytes : t.bytes ≡ sum_below (news_weight header xs on) (length xs) % 2 ^ 64
   last : t.newest ≡ last_that (is_news xs on) (length xs)
 
-all_tallied : (xs : List Item) (on : ℕ → Bool) (t : Tally) → IsTallied xs on t → IsAll xs on t
-all_tallied xs on t h = elim (cases_lt t.at (length xs)) [
+all_tallied : (header : ℕ) (xs : List Item) (on : ℕ → Bool) (t : Tally) → IsTallied header xs on t → IsAll header xs on t
+all_tallied header xs on t h = elim (cases_lt t.at (length xs)) [
   | inl less ↦
       let split : t.at + (length xs - t.at) ≡ length xs = omega (arith, less) in
       let idle : (j : ℕ) → t.at < j → j ≤ t.at + (length xs - t.at) → IsIdle xs on j = λ j lo hi. idle_off xs on j (h.beyond j lo) in
       record {
-        bytes = h.tally.bytes ∙ ap (λ (n : ℕ). n % 2 ^ 64) (sym (idle_sum xs on t.at (length xs - t.at) idle) ∙ ap (sum_below (news_weight xs on)) split);
+        bytes = h.tally.bytes ∙ ap (λ (n : ℕ). n % 2 ^ 64) (sym (idle_sum header xs on t.at (length xs - t.at) idle) ∙ ap (sum_below (news_weight header xs on)) split);
         last = h.tally.last ∙ sym (idle_last xs on t.at (length xs - t.at) idle) ∙ ap (last_that (is_news xs on)) split;
       }
   | inr more ↦
       let split : length xs + (t.at - length xs) ≡ t.at = omega (arith, more) in
       let idle : (j : ℕ) → length xs < j → j ≤ length xs + (t.at - length xs) → IsIdle xs on j = λ j lo hi. idle_past xs on j lo in
       record {
-        bytes = h.tally.bytes ∙ ap (λ (n : ℕ). n % 2 ^ 64) (ap (sum_below (news_weight xs on)) (sym split) ∙ idle_sum xs on (length xs) (t.at - length xs) idle);
+        bytes = h.tally.bytes ∙ ap (λ (n : ℕ). n % 2 ^ 64) (ap (sum_below (news_weight header xs on)) (sym split) ∙ idle_sum header xs on (length xs) (t.at - length xs) idle);
         last = h.tally.last ∙ ap (last_that (is_news xs on)) (sym split) ∙ idle_last xs on (length xs) (t.at - length xs) idle;
       }
 ]
 
 -- the bytes are few
-weight_few : (size : ℕ) (es : List EntryFields) (on : ℕ → Bool) (k : ℕ) → 0 < size → size < 2 ^ 16 → news_weight (map (item_meaning size) es) on k ≤ 65535
-weight_few size es on k some small = grind (arith, short es k)
+weight_few : (header size : ℕ) (es : List EntryFields) (on : ℕ → Bool) (k : ℕ) → header < 2 ^ 16 → 0 < size → size < 2 ^ 16 → news_weight header (map (item_meaning size) es) on k ≤ 131072
+weight_few header size es on k low some small = grind (arith, short es k)
   where
-    short : (ds : List EntryFields) (n : ℕ) → option_map_or unsettled_bytes (slice_get (map (item_meaning size) ds) n) 0 ≤ 65535
+    bytes_few : (e : EntryFields) → unsettled_bytes (item_meaning size e) < 2 ^ 16
+    bytes_few e = let le = bytes_short size e some in grind (arith, le, small)
+
+    short : (ds : List EntryFields) (n : ℕ) → option_map_or (unsettled_chunk header) (slice_get (map (item_meaning size) ds) n) 0 ≤ 131072
     short [] n = omega arith
-    short (e ∷ ds) zero = let le = bytes_short size e some in grind (arith, le, small)
+    short (e ∷ ds) zero = whole_short header (unsettled_bytes (item_meaning size e)) low (bytes_few e)
     short (e ∷ ds) (suc n) = short ds n
 
-pub weights_few : (size : ℕ) (es : List EntryFields) (on : ℕ → Bool) (n : ℕ) → 0 < size → size < 2 ^ 16 → sum_below (news_weight (map (item_meaning size) es) on) n ≤ n * 65535
-weights_few size es on zero some small = omega arith
-weights_few size es on (suc n) some small = let one = weight_few size es on n some small in let rest = weights_few size es on n some small in omega (arith, one, rest)
+pub weights_few : (header size : ℕ) (es : List EntryFields) (on : ℕ → Bool) (n : ℕ) → header < 2 ^ 16 → 0 < size → size < 2 ^ 16 → sum_below (news_weight header (map (item_meaning size) es) on) n ≤ n * 131072
+weights_few header size es on zero low some small = omega arith
+weights_few header size es on (suc n) low some small =
+    let one = weight_few header size es on n low some small in
+    let rest = weights_few header size es on n low some small in
+    omega (arith, one, rest)
 
 -- ---- sums over entries
 
@@ -109,32 +116,32 @@ last_shift on above c (suc n) off same =
 
 -- ---- the bytes that are newly acknowledged
 
-covered_weighs : (v u : SenderView) (i : ℕ) (e : Entry) → v.covered i ≡ true → acked_of v u i e ≡ 0
-covered_weighs v u i e on = grind (arith, on)
+covered_weighs : (header : ℕ) (v u : SenderView) (i : ℕ) (e : Entry) → v.covered i ≡ true → acked_of header v u i e ≡ 0
+covered_weighs header v u i e on = grind (arith, on)
 
 acked_here : (f : Format) (s : Kept) (v u : SenderView) (on : ℕ → Bool) (passed k : ℕ) → Keeps f s v → IsAfter v u on passed
-    → option_map_or (acked_of v u (suc v.cum + k)) (slice_get (drop v.cum v.plan.entries) k) 0 ≡ news_weight s.items on k
+    → option_map_or (acked_of (header_of f) v u (suc v.cum + k)) (slice_get (drop v.cum v.plan.entries) k) 0 ≡ news_weight (header_of f) s.items on k
 acked_here f s v u on passed k h a =
-    ap (λ (n : ℕ). option_map_or (acked_of v u n) (slice_get (drop v.cum v.plan.entries) k) 0) (let same : suc v.cum + k ≡ suc (v.cum + k) = omega arith in same)
-    ∙ ap (λ (o : Option Entry). option_map_or (acked_of v u (suc (v.cum + k))) o 0) (sym (get-drop v.cum v.plan.entries k))
+    ap (λ (n : ℕ). option_map_or (acked_of (header_of f) v u n) (slice_get (drop v.cum v.plan.entries) k) 0) (let same : suc v.cum + k ≡ suc (v.cum + k) = omega arith in same)
+    ∙ ap (λ (o : Option Entry). option_map_or (acked_of (header_of f) v u (suc (v.cum + k))) o 0) (sym (get-drop v.cum v.plan.entries k))
     ∙ by_entry (entry_at v.plan (suc (v.cum + k)))
-    ∙ ap (λ (o : Option Item). if on (suc k) then option_map_or unsettled_bytes o 0 else 0) (sym (kept_get f s v k h))
+    ∙ ap (λ (o : Option Item). if on (suc k) then option_map_or (unsettled_chunk (header_of f)) o 0 else 0) (sym (kept_get f s v k h))
   where
     covered : u.covered (suc (v.cum + k)) ≡ on (suc k)
     covered = ap u.covered (let same : suc (v.cum + k) ≡ v.cum + suc k = omega arith in same) ∙ a.covered (suc k) (omega arith)
 
-    by_entry : (o : Option Entry) → option_map_or (acked_of v u (suc (v.cum + k))) o 0 ≡ (if on (suc k) then option_map_or unsettled_bytes (option_map (item_here v (suc (v.cum + k))) o) 0 else 0)
+    by_entry : (o : Option Entry) → option_map_or (acked_of (header_of f) v u (suc (v.cum + k))) o 0 ≡ (if on (suc k) then option_map_or (unsettled_chunk (header_of f)) (option_map (item_here v (suc (v.cum + k))) o) 0 else 0)
     by_entry o = grind (arith, covered)
 
-bytes_all : (f : Format) (s : Kept) (v u : SenderView) (on : ℕ → Bool) (passed : ℕ) → Keeps f s v → IsAfter v u on passed → newly_acked v u ≡ sum_below (news_weight s.items on) (length s.items)
+bytes_all : (f : Format) (s : Kept) (v u : SenderView) (on : ℕ → Bool) (passed : ℕ) → Keeps f s v → IsAfter v u on passed → newly_acked (header_of f) v u ≡ sum_below (news_weight (header_of f) s.items on) (length s.items)
 bytes_all f s v u on passed h a =
     let b = is_bounded f v h.reached in
     let es = drop v.cum v.plan.entries in
     let long = kept_length f s v h in
     let count : length es ≡ length s.items = omega (arith, long, length-drop v.cum v.plan.entries) in
-    let above = sum_from-drop (acked_of v u) 1 v.cum v.plan.entries (λ j e lo hi. covered_weighs v u j e (b.covered j (omega arith) (omega arith))) b.within in
-    above ∙ ap (λ (n : ℕ). sum_from (acked_of v u) n es) (let one : 1 + v.cum ≡ suc v.cum = omega arith in one) ∙ sum_entries (acked_of v u) (suc v.cum) es
-    ∙ sum-same (λ k. option_map_or (acked_of v u (suc v.cum + k)) (slice_get es k) 0) (news_weight s.items on) (length es) (λ j lt. acked_here f s v u on passed j h a) ∙ ap (sum_below (news_weight s.items on)) count
+    let above = sum_from-drop (acked_of (header_of f) v u) 1 v.cum v.plan.entries (λ j e lo hi. covered_weighs (header_of f) v u j e (b.covered j (omega arith) (omega arith))) b.within in
+    above ∙ ap (λ (n : ℕ). sum_from (acked_of (header_of f) v u) n es) (let one : 1 + v.cum ≡ suc v.cum = omega arith in one) ∙ sum_entries (acked_of (header_of f) v u) (suc v.cum) es
+    ∙ sum-same (λ k. option_map_or (acked_of (header_of f) v u (suc v.cum + k)) (slice_get es k) 0) (news_weight (header_of f) s.items on) (length es) (λ j lt. acked_here f s v u on passed j h a) ∙ ap (sum_below (news_weight (header_of f) s.items on)) count
 
 -- ---- the highest indexes
 
@@ -170,22 +177,22 @@ within_plan v u on passed j a some here = elim (cases_lt (length v.plan.entries)
   | inr le ↦ le
 ]
 
-reaches_passed : (xs : List Item) (v u : SenderView) (on : ℕ → Bool) (passed : ℕ) (t : Tally) → IsAfter v u on passed → IsTallied xs on t → passed ≤ t.at
-reaches_passed xs v u on passed t a h = elim (cases_lt t.at passed) [
+reaches_passed : (header : ℕ) (xs : List Item) (v u : SenderView) (on : ℕ → Bool) (passed : ℕ) (t : Tally) → IsAfter v u on passed → IsTallied header xs on t → passed ≤ t.at
+reaches_passed header xs v u on passed t a h = elim (cases_lt t.at passed) [
   | inl beyond ↦ let off = h.beyond passed beyond in let here = a.passes in absurd (cc)
   | inr le ↦ le
 ]
 
-inside_moved : (f : Format) (s : Kept) (v u : SenderView) (on : ℕ → Bool) (passed : ℕ) (t : Tally) → Keeps f s v → IsAfter v u on passed → IsTallied s.items on t → 0 < passed → newest true v u ≡ v.cum + t.at
+inside_moved : (f : Format) (s : Kept) (v u : SenderView) (on : ℕ → Bool) (passed : ℕ) (t : Tally) → Keeps f s v → IsAfter v u on passed → IsTallied (header_of f) s.items on t → 0 < passed → newest true v u ≡ v.cum + t.at
 inside_moved f s v u on passed t k a h some =
-    let reach = reaches_passed s.items v u on passed t a h in
+    let reach = reaches_passed (header_of f) s.items v u on passed t a h in
     last_at (λ i. is_newly_covered v u i || (true && (moves v u && u.covered i))) (length v.plan.entries) (v.cum + t.at) (omega (arith, reach, some)) (within_plan v u on passed t.at a (omega (arith, reach, some)) h.here) here off
   where
     moved : moves v u ≡ true
     moved = let by : nat_lt 0 passed ≡ true = grind (arith, nat_tests) in sym (moves_is v u on passed a) ∙ by
 
     here : (is_newly_covered v u (v.cum + t.at) || (true && (moves v u && u.covered (v.cum + t.at)))) ≡ true
-    here = let reach = reaches_passed s.items v u on passed t a h in grind (arith, moved, reach, some, a.covered t.at, h.here)
+    here = let reach = reaches_passed (header_of f) s.items v u on passed t a h in grind (arith, moved, reach, some, a.covered t.at, h.here)
 
     off : (j : ℕ) → v.cum + t.at < j → j ≤ length v.plan.entries → (is_newly_covered v u j || (true && (moves v u && u.covered j))) ≡ false
     off j lo hi =
@@ -205,10 +212,10 @@ inside_still v u on passed a none =
 index_low : (c n : ℕ) → index_above c n ≤ c + n
 index_low c n = grind arith
 
-pub weight_is : (f : Format) (s : Kept) (v u : SenderView) (on : ℕ → Bool) (timed : Option ℕ) (passed : ℕ) (t : Tally) (w : Weight) → Keeps f s v → IsAfter v u on passed → IsTallied s.items on t
-    → sum_below (news_weight s.items on) (length s.items) ≤ length s.items * 65535 → w.moved ≡ nat_lt 0 passed → w.cum ≡ (s.cum + passed) % 2 ^ 64 → w.newest ≡ index_above s.cum t.newest % 2 ^ 64
+pub weight_is : (f : Format) (s : Kept) (v u : SenderView) (on : ℕ → Bool) (timed : Option ℕ) (passed : ℕ) (t : Tally) (w : Weight) → Keeps f s v → IsAfter v u on passed → IsTallied (header_of f) s.items on t
+    → sum_below (news_weight (header_of f) s.items on) (length s.items) ≤ length s.items * 131072 → w.moved ≡ nat_lt 0 passed → w.cum ≡ (s.cum + passed) % 2 ^ 64 → w.newest ≡ index_above s.cum t.newest % 2 ^ 64
     → (0 < passed → w.newest_in_recovery ≡ index_above s.cum t.at % 2 ^ 64) → (passed ≡ 0 → w.newest_in_recovery ≡ w.newest) → w.bytes ≡ t.bytes
-    → IfSome timed (λ i. w.acked ≡ (nat_lt v.cum i && (on (i - v.cum) && not (was_given_up v i)))) → IsWeight v u timed w
+    → IfSome timed (λ i. w.acked ≡ (nat_lt v.cum i && (on (i - v.cum) && not (was_given_up v i)))) → IsWeight f v u timed w
 weight_is f s v u on timed passed t w k a h few moved cum newest_here inside_here still_here bytes acked = record {
   moved = moved ∙ moves_is v u on passed a;
   cum = cum ∙ cum_fits (cases_lt 0 passed);
@@ -218,8 +225,8 @@ weight_is f s v u on timed passed t w k a h few moved cum newest_here inside_her
   acked = by_timed timed acked;
 }
   where
-    all : IsAll s.items on t
-    all = all_tallied s.items on t h
+    all : IsAll (header_of f) s.items on t
+    all = all_tallied (header_of f) s.items on t h
 
     most : IsPromised v
     most = is_promised f v k.reached
@@ -251,13 +258,13 @@ weight_is f s v u on timed passed t w k a h few moved cum newest_here inside_her
 
     inside : (0 < passed) ⊎ (passed ≤ 0) → w.newest_in_recovery ≡ newest true v u
     inside (inl some) =
-        let reach = reaches_passed s.items v u on passed t a h in
+        let reach = reaches_passed (header_of f) s.items v u on passed t a h in
         let low = within_plan v u on passed t.at a (omega (arith, reach, some)) h.here in
         inside_here some ∙ ap (λ (c : ℕ). index_above c t.at % 2 ^ 64) k.holds.cum ∙ ap (λ (n : ℕ). n % 2 ^ 64) (above_some v.cum t.at (omega (arith, reach, some))) ∙ fits (v.cum + t.at) low
         ∙ sym (inside_moved f s v u on passed t k a h some)
     inside (inr none) = let zero_passed : passed ≡ 0 = omega (arith, none) in still_here zero_passed ∙ outside ∙ sym (inside_still v u on passed a zero_passed)
 
-    bytes_fit : sum_below (news_weight s.items on) (length s.items) % 2 ^ 64 ≡ sum_below (news_weight s.items on) (length s.items)
+    bytes_fit : sum_below (news_weight (header_of f) s.items on) (length s.items) % 2 ^ 64 ≡ sum_below (news_weight (header_of f) s.items on) (length s.items)
     bytes_fit = let window = is_windowed f v k.reached in omega (arith, few, window, long)
 
     acked_at : (i : ℕ) (b : Bool) → nat_lt v.cum i ≡ b → (b && (on (i - v.cum) && not (was_given_up v i))) ≡ (b && (u.covered i && not (was_given_up v i)))

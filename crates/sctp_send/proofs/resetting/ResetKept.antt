@@ -10,9 +10,9 @@ use Rattle.sctp_model.specs.numbers.Serial.{tsn}
 use Rattle.sctp_model.specs.wire.Reconfig.{is_progress_code, is_number_code}
 use Rattle.sctp_model.specs.messages.Format.{Format, Kind, Ordered, Unordered, Lane}
 use Rattle.sctp_model.specs.messages.Plan.{Entry}
-use Rattle.sctp_model.specs.sender.Outgoing.{Outgoing, Request, LaterNumber, takes_next, is_later}
+use Rattle.sctp_model.specs.sender.Outgoing.{Outgoing, Request, LaterNumber, takes_next}
 use Rattle.sctp_model.specs.sender.SenderView.{SenderView}
-use Rattle.sctp_model.specs.sender.Resetting.{with_resets, may_ask, ready, was_said, first_twice, named_next, is_open_number, response_taken, reset_answered, reset_done, reset_refused, kept_asking, number_back, numbered_so, retried_in}
+use Rattle.sctp_model.specs.sender.Resetting.{with_resets, may_ask, ready, was_said, first_twice, named_next, is_open_number, response_taken, reset_answered, reset_done, reset_refused, kept_asking, is_past_first, number_back, numbered_so, retried_in}
 use Rattle.sctp_model.specs.sender.Reached.{Rebases}
 use Rattle.sctp_model.proofs.sender.OwedLaws.{is_promised}
 use Rattle.sctp_send.specs.SenderKept.{Item, Track, Kept}
@@ -47,6 +47,7 @@ keeps_resets f s v w y o k are forward = record {
   resets = are;
   before = k.before;
   counted = k.counted;
+  limits = k.limits;
   reached = Rebases v o k.reached;
 }
 
@@ -97,10 +98,10 @@ is_done v code q low = grind (arith, nat_tests, low)
 pub is_progress : (v : SenderView) (code : ℕ) (q : Request) → 1 < code → is_progress_code code ≡ true → reset_answered v code q ≡ kept_asking v q
 is_progress v code q high on = grind (arith, nat_tests, high, on)
 
-pub is_back : (v : SenderView) (code : ℕ) (q : Request) → 1 < code → is_progress_code code ≡ false → (is_number_code code && is_later q.numbering) ≡ true → reset_answered v code q ≡ number_back v q
+pub is_back : (v : SenderView) (code : ℕ) (q : Request) → 1 < code → is_progress_code code ≡ false → (is_number_code code && is_past_first v q) ≡ true → reset_answered v code q ≡ number_back v q
 is_back v code q high off on = grind (arith, nat_tests, high, off, on)
 
-pub is_refused : (v : SenderView) (code : ℕ) (q : Request) → 1 < code → is_progress_code code ≡ false → (is_number_code code && is_later q.numbering) ≡ false → reset_answered v code q ≡ reset_refused v q
+pub is_refused : (v : SenderView) (code : ℕ) (q : Request) → 1 < code → is_progress_code code ≡ false → (is_number_code code && is_past_first v q) ≡ false → reset_answered v code q ≡ reset_refused v q
 is_refused v code q high off other = grind (arith, nat_tests, high, off, other)
 
 -- ---- a request is retransmitted

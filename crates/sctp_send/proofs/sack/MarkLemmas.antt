@@ -8,7 +8,7 @@ use Rattle.sctp_send.specs.PartsKept.{changed_at}
 use Rattle.sctp_send.specs.SenderKept.{Item}
 use Rattle.sctp_send.specs.OutstandingFields.{was_sent, is_marked, item_meaning}
 use Rattle.sctp_send.specs.inner.Changes.{stood, each_changed}
-use Rattle.sctp_send.specs.inner.Marking.{IsCappedAt, AreCapped, is_spent, is_just_sent, is_to_mark, timed, timed_at, all_timed}
+use Rattle.sctp_send.specs.inner.Marking.{IsCappedAt, AreCapped, is_spent, is_just_sent, is_to_mark, timed, timed_if, timed_at, all_timed}
 use Rattle.sctp_send.specs.declared.kept.entry.Standing.{Standing}
 use Rattle.sctp_send.specs.declared.kept.entry.Standing.TheVariants.{Unsent, Sent, Marked}
 use Rattle.sctp_send.specs.declared.kept.entry.Entry.{Entry as EntryFields}
@@ -30,33 +30,44 @@ marked_then p r x on = ap (λ (b : Bool). record x { standing = if b then Marked
 pub marked_not : (p : Bool) (r : ℕ) (x : EntryFields) → is_to_mark p r x ≡ false → timed p r x ≡ x
 marked_not p r x off = ap (λ (b : Bool). record x { standing = if b then Marked else x.standing }) off
 
+-- whether it passes or not
+pub not_marked : (b p : Bool) (r : ℕ) (x : EntryFields) → is_to_mark p r x ≡ false → timed_if b p r x ≡ x
+not_marked true p r x off = marked_not p r x off
+not_marked false p r x off = refl
+
 -- ---- the entries at some offsets
 
-timed_repeats : (p : Bool) (rs : ℕ → ℕ) (from to k : ℕ) (e : EntryFields) → (timed_at p rs from to k e).repeats ≡ e.repeats
-timed_repeats p rs from to k e = by_test (nat_le from k && nat_lt k to)
+timed_repeats : (p : Bool) (rs : ℕ → ℕ) (t : ℕ → Bool) (k : ℕ) (e : EntryFields) → (timed_at p rs t k e).repeats ≡ e.repeats
+timed_repeats p rs t k e = by_test (t k)
   where
-    by_test : (b : Bool) → (if b then timed p (rs k) e else e).repeats ≡ e.repeats
+    by_test : (b : Bool) → (timed_if b p (rs k) e).repeats ≡ e.repeats
     by_test true = refl
     by_test false = refl
 
 -- of an entry that wasn't looked at yet
-pub capped_next : (p : Bool) (rs : ℕ → ℕ) (from at : ℕ) (first now : List EntryFields) → AreCapped rs 0 first → now ≡ all_timed p rs from at first → at < length first → IsCappedAt (rs at) at now
-capped_next p rs from at first now capped is lt = let zeroed : 0 + at ≡ at = omega arith in rw is (rw zeroed at (capped_there (timed_at p rs from at) rs at 0 first (timed_repeats p rs from at) lt capped))
+pub capped_next : (p : Bool) (rs : ℕ → ℕ) (t : ℕ → Bool) (at : ℕ) (first now : List EntryFields) → AreCapped rs 0 first → now ≡ all_timed p rs t first → at < length first → IsCappedAt (rs at) at now
+capped_next p rs t at first now capped is lt = let zeroed : 0 + at ≡ at = omega arith in rw is (rw zeroed at (capped_there (timed_at p rs t) rs at 0 first (timed_repeats p rs t) lt capped))
 
-pub timed_none : (p : Bool) (rs : ℕ → ℕ) (from : ℕ) (es : List EntryFields) → es ≡ all_timed p rs from from es
-timed_none p rs from es = each_none (timed_at p rs from from) 0 es none
+-- the offsets of a range that pass
+abbrev pub in_range : (s : ℕ → Bool) → (from to : ℕ) → ℕ → Bool
+in_range s from to k = (nat_le from k && nat_lt k to) && s k
+
+pub timed_none : (p : Bool) (rs : ℕ → ℕ) (s : ℕ → Bool) (from : ℕ) (es : List EntryFields) → es ≡ all_timed p rs (in_range s from from) es
+timed_none p rs s from es = each_none (timed_at p rs (in_range s from from)) 0 es none
   where
-    none : (k : ℕ) (e : EntryFields) → 0 ≤ k → timed_at p rs from from k e ≡ e
+    none : (k : ℕ) (e : EntryFields) → 0 ≤ k → timed_at p rs (in_range s from from) k e ≡ e
     none k e le = let off : (nat_le from k && nat_lt k from) ≡ false = grind (arith, nat_tests) in rw off refl
 
-pub timed_more : (p : Bool) (rs : ℕ → ℕ) (from at : ℕ) (first now next : List EntryFields) → from ≤ at → now ≡ all_timed p rs from at first → next ≡ changed_at (timed p (rs at)) at now → next ≡ all_timed p rs from (at + 1) first
-timed_more p rs from at first now next order is went =
-    went ∙ ap (changed_at (timed p (rs at)) at) is ∙ each_step (timed_at p rs from at) (timed_at p rs from (at + 1)) (timed p (rs at)) at 0 first other here
+pub timed_more : (p : Bool) (rs : ℕ → ℕ) (s : ℕ → Bool) (from at : ℕ) (first now next : List EntryFields) → from ≤ at → now ≡ all_timed p rs (in_range s from at) first
+    → next ≡ changed_at (timed_if (s at) p (rs at)) at now → next ≡ all_timed p rs (in_range s from (at + 1)) first
+timed_more p rs s from at first now next order is went =
+    went ∙ ap (changed_at (timed_if (s at) p (rs at)) at) is
+    ∙ each_step (timed_at p rs (in_range s from at)) (timed_at p rs (in_range s from (at + 1))) (timed_if (s at) p (rs at)) at 0 first other here
   where
-    other : (k : ℕ) (e : EntryFields) → (k ≡ 0 + at → ⊥) → timed_at p rs from at k e ≡ timed_at p rs from (at + 1) k e
+    other : (k : ℕ) (e : EntryFields) → (k ≡ 0 + at → ⊥) → timed_at p rs (in_range s from at) k e ≡ timed_at p rs (in_range s from (at + 1)) k e
     other k e apart = let same : nat_lt k at ≡ nat_lt k (at + 1) = grind (arith, nat_tests) in rw same refl
 
-    here : (e : EntryFields) → timed p (rs at) (timed_at p rs from at (0 + at) e) ≡ timed_at p rs from (at + 1) (0 + at) e
+    here : (e : EntryFields) → timed_if (s at) p (rs at) (timed_at p rs (in_range s from at) (0 + at) e) ≡ timed_at p rs (in_range s from (at + 1)) (0 + at) e
     here e =
         let zeroed : 0 + at ≡ at = omega arith in
         let off : (nat_le from at && nat_lt at at) ≡ false = grind (arith, nat_tests) in
@@ -64,11 +75,12 @@ timed_more p rs from at first now next order is went =
         rw (zeroed, off, on) refl
 
 -- no entry stands behind the last
-pub timed_within : (p : Bool) (rs : ℕ → ℕ) (from to last first : ℕ) (es : List EntryFields) → last ≡ min to (length es) → first ≡ min from last → all_timed p rs first last es ≡ all_timed p rs from to es
-timed_within p rs from to last first es ends begins = each_same (timed_at p rs first last) (timed_at p rs from to) 0 es same
+pub timed_within : (p : Bool) (rs : ℕ → ℕ) (s : ℕ → Bool) (from to last first : ℕ) (es : List EntryFields) → last ≡ min to (length es) → first ≡ min from last
+    → all_timed p rs (in_range s first last) es ≡ all_timed p rs (in_range s from to) es
+timed_within p rs s from to last first es ends begins = each_same (timed_at p rs (in_range s first last)) (timed_at p rs (in_range s from to)) 0 es same
   where
-    same : (k : ℕ) (e : EntryFields) → 0 ≤ k → k < 0 + length es → timed_at p rs first last k e ≡ timed_at p rs from to k e
-    same k e lo hi = let in_range : (nat_le first k && nat_lt k last) ≡ (nat_le from k && nat_lt k to) = grind (arith, nat_tests) in rw in_range refl
+    same : (k : ℕ) (e : EntryFields) → 0 ≤ k → k < 0 + length es → timed_at p rs (in_range s first last) k e ≡ timed_at p rs (in_range s from to) k e
+    same k e lo hi = let ranges : (nat_le first k && nat_lt k last) ≡ (nat_le from k && nat_lt k to) = grind (arith, nat_tests) in rw ranges refl
 
 -- ---- as items
 
@@ -98,11 +110,11 @@ item-timed size p r e = by_standing e.standing
         rw grouped (sym (by_mark ((not e.covered && not e.abandoned) && not w)))
     by_standing Marked = refl
 
-pub items-timed : (size : ℕ) (p : Bool) (rs : ℕ → ℕ) (from to i : ℕ) (es : List EntryFields)
-    → map (item_meaning size) (each_changed (timed_at p rs from to) i es) ≡ timed_items p rs (λ k. nat_le from k && nat_lt k to) i (map (item_meaning size) es)
-items-timed size p rs from to i es =
-    each_mapped (item_meaning size) (timed_at p rs from to) (λ k x. if nat_le from k && nat_lt k to then timed_item p (rs k) x else x) i es (λ k e. one k e (nat_le from k && nat_lt k to))
+pub items-timed : (size : ℕ) (p : Bool) (rs : ℕ → ℕ) (t : ℕ → Bool) (i : ℕ) (es : List EntryFields)
+    → map (item_meaning size) (each_changed (timed_at p rs t) i es) ≡ timed_items p rs t i (map (item_meaning size) es)
+items-timed size p rs t i es =
+    each_mapped (item_meaning size) (timed_at p rs t) (λ k x. if t k then timed_item p (rs k) x else x) i es (λ k e. one k e (t k))
   where
-    one : (k : ℕ) (e : EntryFields) (b : Bool) → item_meaning size (if b then timed p (rs k) e else e) ≡ (if b then timed_item p (rs k) (item_meaning size e) else item_meaning size e)
+    one : (k : ℕ) (e : EntryFields) (b : Bool) → item_meaning size (timed_if b p (rs k) e) ≡ (if b then timed_item p (rs k) (item_meaning size e) else item_meaning size e)
     one k e true = item-timed size p (rs k) e
     one k e false = refl

@@ -5,7 +5,7 @@ use Rattle.sctp_model.specs.messages.Plan.{Message}
 use Rattle.sctp_send.specs.SenderKept.{Item}
 use Rattle.sctp_send.specs.OutstandingFields.{item_meaning}
 use Rattle.sctp_send.specs.SenderFields.{track_meaning}
-use Rattle.sctp_send.specs.inner.Wishing.{first_offset, is_item_marked, is_item_unsent, item_weight, item_flight}
+use Rattle.sctp_send.specs.inner.Wishing.{first_offset, is_item_marked, is_item_unsent, item_weight, item_flight, item_chunk, item_chunks}
 use Rattle.sctp_send.specs.inner.Walks.{total, one_if_rest, rest_owes, abandoned_items, is_item_unsettled}
 use Rattle.sctp_send.specs.inner.Newcomers.{one_if}
 use Rattle.sctp_send.specs.declared.kept.counts.Counts.{Counts}
@@ -30,6 +30,7 @@ count_unsettled (x ∷ xs) = one_if (is_item_unsettled x) + count_unsettled xs
 abbrev pub entered : Item → Counts → Counts
 entered x c = record c {
   flight = (c.flight + item_weight x) % 2 ^ 64;
+  chunks = (c.chunks + item_chunk c.header x) % 2 ^ 64;
   unsettled = (c.unsettled + one_if (is_item_unsettled x)) % 2 ^ 64;
 }
 
@@ -37,6 +38,7 @@ entered x c = record c {
 abbrev pub left : Item → Counts → Counts
 left x c = record c {
   flight = (c.flight + (2 ^ 64 - item_weight x)) % 2 ^ 64;
+  chunks = (c.chunks + (2 ^ 64 - item_chunk c.header x)) % 2 ^ 64;
   unsettled = (c.unsettled + (2 ^ 64 - one_if (is_item_unsettled x))) % 2 ^ 64;
 }
 
@@ -63,11 +65,13 @@ reached at x c = record c {
 pub record IsCounted (size : ℕ) (es : List EntryFields) (c : Counts) : Type 0 where
   pub some : 0 < size
   pub small : size < 2 ^ 16
+  pub low : c.header < 2 ^ 16
   pub marked : first_offset is_item_marked (take c.marked (map (item_meaning size) es)) ≡ None
   pub marked_within : c.marked ≤ length es
   pub unsent : first_offset is_item_unsent (take c.unsent (map (item_meaning size) es)) ≡ None
   pub unsent_within : c.unsent ≤ length es
   pub flight : c.flight ≡ item_flight (map (item_meaning size) es) % 2 ^ 64
+  pub chunks : c.chunks ≡ item_chunks c.header (map (item_meaning size) es) % 2 ^ 64
   pub unsettled : c.unsettled ≡ count_unsettled (map (item_meaning size) es) % 2 ^ 64
   pub front : c.front ≡ abandoned_items (map (item_meaning size) es)
 

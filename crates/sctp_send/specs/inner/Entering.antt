@@ -3,6 +3,8 @@ use Rattle.std.specs.Prelude.{◌≡◌, ℕ, ◌<◌, ◌≤◌, ◌++◌, List
 use Rattle.std.specs.declared.sync.Arc.{Arc}
 use Rattle.std.specs.declared.alloc.Global.{Global}
 use Rattle.sctp_model.specs.numbers.Limits.{GREATEST_FRAGMENT}
+use Rattle.sctp_model.specs.messages.Format.{Format}
+use Rattle.sctp_model.specs.messages.Framing.{header_of}
 use Rattle.sctp_values.specs.Meanings.{kind_meaning}
 use Rattle.sctp_send.specs.PartsKept.{IsSameRoom}
 use Rattle.sctp_send.specs.SenderKept.{Item}
@@ -33,11 +35,12 @@ abbrev pub counted_to : Kind → ℕ → Track → Track
 counted_to Ordered n t = record t { ordered = n }
 counted_to Unordered n t = record t { unordered = n }
 
--- all parts have fragments of the same size, which is within its limits
-pub record IsSized (size : ℕ) (d : Stock) : Type 0 where
+-- all parts have fragments of the same size, which is within its limits, and the chunks of entries have this format
+pub record IsSized (f : Format) (size : ℕ) (d : Stock) : Type 0 where
   pub some : 0 < size
   pub short : size ≤ GREATEST_FRAGMENT
   pub window : d.outstanding.size ≡ size
+  pub header : d.outstanding.header ≡ header_of f
   pub queue : d.queue.size ≡ size
   pub tracks : d.streams.size ≡ size
 

@@ -1,5 +1,5 @@
 -- Entries marked for retransmission (RFC 9260, 6.3.3 and 7.2.4), unless they were retransmitted as often as their messages' limits allow (RFC 7496, 3.1).
-use Rattle.std.specs.Prelude.{◌≡◌, ℕ, suc, min, nat_le, nat_lt, Bool, true, false, not, ◌&&◌, if◌then◌else◌, List, [], ◌∷◌, slice_index_or}
+use Rattle.std.specs.Prelude.{◌≡◌, ℕ, suc, min, nat_le, Bool, true, false, not, ◌&&◌, if◌then◌else◌, List, [], ◌∷◌, slice_index_or}
 use Rattle.sctp_model.specs.sender.Words.{some_passes}
 use Rattle.sctp_send.specs.inner.Changes.{each_changed}
 use Rattle.sctp_send.specs.declared.kept.entry.Standing.{Standing}
@@ -41,10 +41,14 @@ is_to_mark p r e = is_just_sent e.standing && (not e.covered && (not e.abandoned
 abbrev pub timed : (partial : Bool) → (repeats : ℕ) → EntryFields → EntryFields
 timed p r e = record e { standing = if is_to_mark p r e then Marked else e.standing }
 
--- an entry at one of the offsets from `from` on, below `to`, is marked
-abbrev pub timed_at : (partial : Bool) → (ℕ → ℕ) → (from to : ℕ) → ℕ → EntryFields → EntryFields
-timed_at p rs from to i e = if nat_le from i && nat_lt i to then timed p (rs i) e else e
+-- if it passes
+abbrev pub timed_if : (passes partial : Bool) → (repeats : ℕ) → EntryFields → EntryFields
+timed_if b p r e = if b then timed p r e else e
+
+-- an entry at one of the offsets that pass is marked
+abbrev pub timed_at : (partial : Bool) → (ℕ → ℕ) → (ℕ → Bool) → ℕ → EntryFields → EntryFields
+timed_at p rs passes i e = timed_if (passes i) p (rs i) e
 
 -- the entries at those offsets are
-abbrev pub all_timed : (partial : Bool) → (ℕ → ℕ) → (from to : ℕ) → List EntryFields → List EntryFields
-all_timed p rs from to es = each_changed (timed_at p rs from to) 0 es
+abbrev pub all_timed : (partial : Bool) → (ℕ → ℕ) → (ℕ → Bool) → List EntryFields → List EntryFields
+all_timed p rs passes es = each_changed (timed_at p rs passes) 0 es

@@ -9,7 +9,7 @@ use Rattle.sctp_model.specs.messages.Format.{Lane}
 use Rattle.sctp_model.specs.sender.Entries.{entry_lane}
 use Rattle.sctp_model.specs.sender.Assigning.{is_on}
 use Rattle.sctp_model.specs.numbers.Serial.{tsn}
-use Rattle.sctp_model.specs.sender.Outgoing.{Request, FirstNumber, takes_next, is_later, are_listed}
+use Rattle.sctp_model.specs.sender.Outgoing.{Request, FirstNumber, takes_next, are_listed}
 use Rattle.sctp_model.specs.sender.Resetting.{first_twice}
 use Rattle.sctp_model.specs.sender.Words.{count_up}
 use Rattle.sctp_send.specs.OutstandingFields.{item_meaning}
@@ -95,11 +95,6 @@ pub record IsFresh (n : ℕ) (t : ResetTable) : Type 0 where
 abbrev pub takes_next_in : Option Request → Bool
 takes_next_in None = false
 takes_next_in (Some q) = takes_next q.numbering
-
--- one waits with the number after one under which it was in progress
-abbrev pub is_later_in : Option Request → Bool
-is_later_in None = false
-is_later_in (Some q) = is_later q.numbering
 
 -- a request as it is made
 abbrev pub made_of : (first last : ℕ) → List ℕ → Request

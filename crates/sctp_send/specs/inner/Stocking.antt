@@ -141,15 +141,15 @@ NothingStands f v = next_wish f v ≡ option_map (newcomer v) (assigned f v)
 
 -- ---- all of FILL
 
--- All of FILL is in the packet, and the stock keeps what it leaves; its chunks are counted, where all indexes below one were missed.
-pub record AllPut (f : Format) (s : Kept) (v : SenderView) (before after : PacketDraft) (d : Stock) (missed : ℕ) (sendings : Sendings) : Type 0 where
+-- All of FILL is in the packet, and the stock keeps what it leaves; its chunks are counted.
+pub record AllPut (f : Format) (s : Kept) (v : SenderView) (before after : PacketDraft) (d : Stock) (sendings : Sendings) : Type 0 where
   pub wishes : List Wish
   pub view : SenderView
   pub fill : IsFill f v (room_in before) wishes view
   pub chunks : after ≡ with_chunks before (map (chunk_of f) wishes)
   pub keeps : Keeps f (stocked s d) view
   pub told : numbers_of d.tickets.items ≡ newly_numbered v view
-  pub counts : sendings ≡ sendings_of missed wishes
+  pub counts : sendings ≡ sendings_of wishes
 
 -- what takes an index next
 abbrev pub NewAnswer : Format → SenderView → Option Next → Type 0

@@ -1,5 +1,6 @@
 -- What is known of stretches: of 64 entries in a row, the first of which has an index that 64 divides.
 use Rattle.std.specs.Prelude.{◌≡◌, ℕ, zero, suc, ◌+◌, ◌-◌, ◌/◌, ◌%◌, ◌^◌, ◌≤◌, Bool, true, false, if◌then◌else◌, List, [], ◌∷◌, length, slice_get, Some}
+use Rattle.sctp_model.specs.end.Control.{whole}
 use Rattle.sctp_send.specs.OutstandingFields.{item_meaning}
 use Rattle.sctp_send.specs.inner.Wishing.{item_bytes}
 use Rattle.sctp_send.specs.inner.Changes.{unmarked, told}
@@ -32,13 +33,20 @@ plain_bytes size e = if e.abandoned then 0 else entry_bytes size e
 abbrev pub plain_one : EntryFields → ℕ
 plain_one e = if e.abandoned then 0 else 1
 
--- There are n entries from an offset on, all of them quiet and acknowledged or all of them quiet and not; those that aren't abandoned have so many bytes, and are so many.
-abbrev pub AreAlike : (size : ℕ) → (covered : Bool) → (bytes plain at many : ℕ) → List EntryFields → Type 0
-AreAlike size c n p (suc at) k [] = ⊥
-AreAlike size c n p (suc at) k (e ∷ es) = AreAlike size c n p at k es
-AreAlike size c n p zero zero es = (n ≡ 0) × (p ≡ 0)
-AreAlike size c n p zero (suc k) [] = ⊥
-AreAlike size c n p zero (suc k) (e ∷ es) = IsQuiet c e × (plain_bytes size e ≤ n) × (plain_one e ≤ p) × AreAlike size c (n - plain_bytes size e) (p - plain_one e) zero k es
+-- the bytes of its chunk
+abbrev pub plain_chunk : (header size : ℕ) → EntryFields → ℕ
+plain_chunk header size e = whole header (plain_bytes size e)
+
+-- There are n entries from an offset on, all of them quiet and acknowledged or all of them quiet and not; those that aren't abandoned have so many bytes, their
+-- chunks have so many, and they are so many.
+abbrev pub AreAlike : (header size : ℕ) → (covered : Bool) → (bytes chunks plain at many : ℕ) → List EntryFields → Type 0
+AreAlike header size c n q p (suc at) k [] = ⊥
+AreAlike header size c n q p (suc at) k (e ∷ es) = AreAlike header size c n q p at k es
+AreAlike header size c n q p zero zero es = (n ≡ 0) × (q ≡ 0) × (p ≡ 0)
+AreAlike header size c n q p zero (suc k) [] = ⊥
+AreAlike header size c n q p zero (suc k) (e ∷ es) =
+    IsQuiet c e × (plain_bytes size e ≤ n) × (plain_chunk header size e ≤ q) × (plain_one e ≤ p)
+    × AreAlike header size c (n - plain_bytes size e) (q - plain_chunk header size e) (p - plain_one e) zero k es
 
 -- so many entries from an offset on are changed
 abbrev pub run_changed : (EntryFields → EntryFields) → (at many : ℕ) → List EntryFields → List EntryFields
@@ -60,10 +68,14 @@ noted c e = record e { covered = c }
 abbrev pub covered_run : Bool → (at many : ℕ) → List EntryFields → List EntryFields
 covered_run c at k es = run_changed (noted c) at k es
 
--- the counts once a stretch, of whose entries so many aren't abandoned and have so many bytes, is acknowledged, or not
-abbrev pub turned_counts : (bytes plain : ℕ) → Bool → Counts → Counts
-turned_counts n p true c = record c { flight = (c.flight + (2 ^ 64 - n)) % 2 ^ 64; unsettled = (c.unsettled + (2 ^ 64 - p)) % 2 ^ 64 }
-turned_counts n p false c = record c { flight = (c.flight + n) % 2 ^ 64; unsettled = (c.unsettled + p) % 2 ^ 64 }
+-- the counts once a stretch, of whose entries so many aren't abandoned and have so many bytes, and so many with their chunks, is acknowledged, or not
+abbrev pub turned_counts : (bytes chunks plain : ℕ) → Bool → Counts → Counts
+turned_counts n q p true c = record c {
+  flight = (c.flight + (2 ^ 64 - n)) % 2 ^ 64;
+  chunks = (c.chunks + (2 ^ 64 - q)) % 2 ^ 64;
+  unsettled = (c.unsettled + (2 ^ 64 - p)) % 2 ^ 64;
+}
+turned_counts n q p false c = record c { flight = (c.flight + n) % 2 ^ 64; chunks = (c.chunks + q) % 2 ^ 64; unsettled = (c.unsettled + p) % 2 ^ 64 }
 
 -- the index of an offset, modulo 2^32, where the first entry has this one
 abbrev pub index_at : (first offset : ℕ) → ℕ
@@ -74,6 +86,6 @@ abbrev pub slot_at : (index : ℕ) → ℕ
 slot_at i = i / 64 % 512
 
 -- What is known of each whole stretch is so.
-abbrev pub AreKnown : (size first : ℕ) → List Stretch → List EntryFields → Type 0
-AreKnown size first ss es = (n : ℕ) (s : Stretch) → n + 64 ≤ length es → index_at first n % 64 ≡ 0 → slice_get ss (slot_at (index_at first n)) ≡ Some s → s.is_known ≡ true
-    → AreAlike size s.covered s.bytes s.plain n 64 es
+abbrev pub AreKnown : (header size first : ℕ) → List Stretch → List EntryFields → Type 0
+AreKnown header size first ss es = (n : ℕ) (s : Stretch) → n + 64 ≤ length es → index_at first n % 64 ≡ 0 → slice_get ss (slot_at (index_at first n)) ≡ Some s → s.is_known ≡ true
+    → AreAlike header size s.covered s.bytes s.chunks s.plain n 64 es

@@ -64,4 +64,4 @@ pub record IsInOrder (size : ℕ) (es : List EntryFields) (capacity : ℕ) (c : 
   pub within : length es ≤ room
   pub here : room ≤ capacity
   pub there : room ≤ o.pairs.capacity
-  pub known : AreKnown size o.first ss es
+  pub known : AreKnown c.header size o.first ss es

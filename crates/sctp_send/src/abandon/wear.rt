@@ -1,13 +1,16 @@
 //! Abandoning messages that were retransmitted as often as they may be (RFC 7496, 3.1).
 
-ghost use Rattle.std.specs.Prelude.{◌≡◌, ℕ, suc, ◌+◌, ◌<◌, Bool, true, ◌&&◌, nat_le, nat_lt, length};
+ghost use Rattle.std.specs.Prelude.{◌≡◌, ℕ, suc, ◌+◌, ◌<◌, Bool, true, length};
 ghost use Rattle.sctp_model.specs.sender.SenderView.{SenderView};
 ghost use Rattle.sctp_model.specs.sender.Abandoning.{wear_one, worn};
 ghost use Rattle.sctp_send.specs.SenderStands.{StandsFor};
+ghost use Rattle.sctp_send.specs.PaceAnswers.{AgreeAbove};
+ghost use Rattle.sctp_send.specs.inner.Testing.{index_of, passes_between};
 ghost use Rattle.sctp_send.specs.inner.Wearing.{WornAnswer};
 
+use crate::index_test::{EachIndex, IndexTest};
 use crate::kept::wishes::{is_spent, is_unsettled};
-use crate::sack::marking::offset_of;
+use crate::sack::marking::{index_at, offset_of};
 use crate::sender::Sender;
 use sctp_framing::Framing;
 use sctp_values::Ticket;
@@ -20,25 +23,37 @@ impl<F: Framing> Sender<F> {
         ensures { (v : SenderView) → StandsFor F.format self.old v → StandsFor F.format self.new (worn (λ i. true) v) }
     {
         let last = self.parts.outstanding.len();
-        self.wear_offsets(0, last);
+        self.wear_offsets(0, last, &EachIndex);
     }
 
-    /// As `wear`, for the fragments with the indexes from `from` on, below `below`. Indexes count TSNs from 1, the initial TSN.
-    pub fn wear_between(&mut self, from: u64, below: u64)
-        ensures { (v : SenderView) → StandsFor F.format self.old v → StandsFor F.format self.new (worn (λ i. nat_le from i && nat_lt i below) v) }
+    /// As `wear`, for the fragments with the indexes from `from` on, below `below`, that pass the test. Indexes count TSNs from 1, the initial TSN.
+    pub fn wear_between<T: IndexTest>(&mut self, from: u64, below: u64, test: &T)
+        ensures { (v : SenderView) (missed : ℕ → Bool) → StandsFor F.format self.old v → AgreeAbove v from below (T.Says test.now) missed
+            → StandsFor F.format self.new (worn missed v) }
     {
         let cum = self.told.cum;
-        self.wear_offsets(offset_of(cum, from), offset_of(cum, below));
+        self.wear_offsets(offset_of(cum, from), offset_of(cum, below), test);
     }
 
-    /// As `wear`, for the entries at the offsets from `from` on, below `to`, by rising offset. No end mark that it appends is looked at.
-    fn wear_offsets(&mut self, from: usize, to: usize)
-        ensures { (v : SenderView) → StandsFor F.format self.old v → (test : ℕ → Bool) → ((k : ℕ) → k < length self.old.items → (nat_le from k && nat_lt k to) ≡ test (suc (v.cum + k)))
-            → StandsFor F.format self.new (worn test v) }
+    /// As `wear`, for the entries at the offsets from `from` on, below `to`, whose indexes pass, by rising offset. No end mark that it appends is looked at.
+    fn wear_offsets<T: IndexTest>(&mut self, from: usize, to: usize, test: &T)
+        ensures { (v : SenderView) (missed : ℕ → Bool) → StandsFor F.format self.old v
+            → ((k : ℕ) → k < length self.old.items → passes_between (T.Says test.now) self.old.cum from to k ≡ missed (suc (v.cum + k)))
+            → StandsFor F.format self.new (worn missed v) }
     {
         let last = to.min(self.parts.outstanding.len());
         let first = from.min(last);
         for at in first..last {
+            self.wear_passing(at, test);
+        }
+    }
+
+    /// `wear_at`, if the index at that offset passes.
+    fn wear_passing<T: IndexTest>(&mut self, at: usize, test: &T)
+        ensures { (v : SenderView) (missed : ℕ → Bool) → StandsFor F.format self.old v → T.Says test.now (index_of self.old.cum at) ≡ missed (suc (v.cum + at))
+            → StandsFor F.format self.new (wear_one missed v (suc (v.cum + at))) }
+    {
+        if test.passes(index_at(self.told.cum, at)) {
             self.wear_at(at);
         }
     }

@@ -48,7 +48,7 @@ impl Told {
     /// Which wish goes into a packet with so many bytes left, if one may: the first of the entries that are to go out, or else what takes the next index.
     #[inline(always)]
     pub(crate) fn next_going<F: Framing>(&self, stock: &mut Stock, room: usize) -> Option<Going>
-        requires { IsSized self.now.fragment stock.old }
+        requires { IsSized F.format self.now.fragment stock.old }
         ensures goes { (v : SenderView) (p : PacketDraft) → Keeps F.format (stocked (bare self.now) stock.old) v → room ≡ room_in p → GoesAnswer F.format v p result }
         ensures can { (p : PacketDraft) → room ≡ room_in p → IfSome result (λ going. CanGo F.format p self.now stock.old going) }
         ensures same { stock.new ≡ stock.old }
@@ -62,7 +62,7 @@ impl Told {
     /// `next_going`, where an entry may be to go out.
     #[inline(always)]
     fn next_pending<F: Framing>(&self, stock: &mut Stock, room: usize) -> Option<Going>
-        requires { IsSized self.now.fragment stock.old }
+        requires { IsSized F.format self.now.fragment stock.old }
         ensures goes { (v : SenderView) (p : PacketDraft) → Keeps F.format (stocked (bare self.now) stock.old) v → room ≡ room_in p → GoesAnswer F.format v p result }
         ensures can { (p : PacketDraft) → room ≡ room_in p → IfSome result (λ going. CanGo F.format p self.now stock.old going) }
         ensures same { stock.new ≡ stock.old }
@@ -81,7 +81,7 @@ impl Told {
     /// What takes the next index, if it may: under DATA the message that has waited longest, whole; under I-DATA the streams take turns.
     #[inline(always)]
     fn next_new<F: Framing>(&self, stock: &Stock, room: usize) -> Option<Going>
-        requires { IsSized self.now.fragment stock.now }
+        requires { IsSized F.format self.now.fragment stock.now }
         ensures goes { (v : SenderView) (p : PacketDraft) → Keeps F.format (stocked (bare self.now) stock.now) v → room ≡ room_in p → NothingStands F.format v → GoesAnswer F.format v p result }
         ensures can { (p : PacketDraft) → room ≡ room_in p → IfSome result (λ going. CanGo F.format p self.now stock.now going) }
     {
@@ -114,7 +114,7 @@ impl Told {
         all: usize,
         room: usize,
     ) -> bool
-        requires sized { IsSized self.now.fragment stock.now }
+        requires sized { IsSized F.format self.now.fragment stock.now }
         requires place { next.place < length stock.now.queue.items }
         requires some { 0 < next.count }
         requires its { message.now ≡ slice_index_or stock.now.queue.items next.place message.now }
@@ -142,7 +142,7 @@ impl Told {
         again: bool,
         room: usize,
     ) -> bool
-        requires { IsSized self.now.fragment stock.now }
+        requires { IsSized F.format self.now.fragment stock.now }
         ensures asked { (v : SenderView) (p : PacketDraft) (number i : ℕ) → Keeps F.format (stocked (bare self.now) stock.now) v → room ≡ room_in p
             → result ≡ let_in F.format again (bare self.now) stock.now i p (entry_meaning (lane_meaning message.now) number content) (Some (message_meaning self.now.fragment message.now)) }
         ensures fits { (p : PacketDraft) → room ≡ room_in p → result ≡ true → FitsInto F.format p self.now.fragment message.now content }

@@ -38,13 +38,13 @@ impl Told {
     /// Puts the chunk of a wish that goes: its entry goes out, or its message takes its number, or its next index.
     #[inline(always)]
     pub(crate) fn go<F: Framing>(&self, stock: &mut Stock, going: Going, packet: &mut PacketWriter)
-        requires sized { IsSized self.now.fragment stock.old }
+        requires sized { IsSized F.format self.now.fragment stock.old }
         requires can { CanGo F.format packet.old self.now stock.old going }
         requires reserved { packet.old.space ≡ true }
         requires told { vec_len stock.old.tickets < vec_capacity stock.old.tickets }
         ensures put { (v : SenderView) → Keeps F.format (stocked (bare self.now) stock.old) v → GoesAnswer F.format v packet.old (Some going)
             → IsPut F.format (bare self.now) v packet.old packet.new stock.old stock.new }
-        ensures sized { IsSized self.now.fragment stock.new }
+        ensures sized { IsSized F.format self.now.fragment stock.new }
         ensures left { vec_capacity stock.old.tickets + vec_len stock.new.tickets ≤ vec_capacity stock.new.tickets + vec_len stock.old.tickets + 1 }
         ensures reserved { packet.new.space ≡ true }
     {
@@ -58,13 +58,13 @@ impl Told {
     /// Puts the entry at this offset, which fits: it goes out.
     #[inline(always)]
     fn put_entry<F: Framing>(&self, stock: &mut Stock, at: usize, packet: &mut PacketWriter)
-        requires sized { IsSized self.now.fragment stock.old }
+        requires sized { IsSized F.format self.now.fragment stock.old }
         requires within { at < length stock.old.outstanding.items }
         requires reserved { packet.old.space ≡ true }
         requires fits { (x : EntryFields) → x ≡ slice_index_or stock.old.outstanding.items at x → FitsInto F.format packet.old self.now.fragment x.message.value x.content }
         ensures put { (v : SenderView) → Keeps F.format (stocked (bare self.now) stock.old) v → (again : Bool) → IsNextPending F.format v at again → IsAsked F.format v packet.old true
             → IsPut F.format (bare self.now) v packet.old packet.new stock.old stock.new }
-        ensures sized { IsSized self.now.fragment stock.new }
+        ensures sized { IsSized F.format self.now.fragment stock.new }
         ensures tickets { stock.new.tickets ≡ stock.old.tickets }
         ensures reserved { packet.new.space ≡ true }
     {
@@ -113,13 +113,13 @@ impl Told {
     /// The message at a place of the queue takes its number, and so many of its fragments their indexes: the first one's chunk is put.
     #[inline(always)]
     fn begin<F: Framing>(&self, stock: &mut Stock, next: Beginning, packet: &mut PacketWriter)
-        requires sized { IsSized self.now.fragment stock.old }
+        requires sized { IsSized F.format self.now.fragment stock.old }
         requires can { CanBegin F.format packet.old self.now.fragment stock.old next }
         requires reserved { packet.old.space ≡ true }
         requires told { vec_len stock.old.tickets < vec_capacity stock.old.tickets }
         ensures put { (v : SenderView) → Keeps F.format (stocked (bare self.now) stock.old) v → NothingStands F.format v → IsBegun F.format v next.place next.count next.turn → IsAsked F.format v packet.old true
             → IsPut F.format (bare self.now) v packet.old packet.new stock.old stock.new }
-        ensures sized { IsSized self.now.fragment stock.new }
+        ensures sized { IsSized F.format self.now.fragment stock.new }
         ensures one { vec_len stock.new.tickets ≡ vec_len stock.old.tickets + 1 }
         ensures capacity { vec_capacity stock.new.tickets ≡ vec_capacity stock.old.tickets }
         ensures reserved { packet.new.space ≡ true }
@@ -150,12 +150,12 @@ impl Told {
 
     /// The message in part of a stream takes its next index: its chunk is put.
     fn go_on<F: Framing>(&self, stock: &mut Stock, stream: u16, packet: &mut PacketWriter)
-        requires sized { IsSized self.now.fragment stock.old }
+        requires sized { IsSized F.format self.now.fragment stock.old }
         requires can { CanGoOn F.format packet.old self.now stock.old stream }
         requires reserved { packet.old.space ≡ true }
         ensures put { (v : SenderView) → Keeps F.format (stocked (bare self.now) stock.old) v → NothingStands F.format v → IsContinued F.format v stream → IsAsked F.format v packet.old true
             → IsPut F.format (bare self.now) v packet.old packet.new stock.old stock.new }
-        ensures sized { IsSized self.now.fragment stock.new }
+        ensures sized { IsSized F.format self.now.fragment stock.new }
         ensures tickets { stock.new.tickets ≡ stock.old.tickets }
         ensures reserved { packet.new.space ≡ true }
     {
@@ -179,28 +179,19 @@ impl Told {
 impl Sendings {
     /// No chunk went in.
     pub(crate) fn none() -> Sendings
-        ensures { result ≡ record { first = 0; timed = 0; missed = 0 } }
+        ensures { result ≡ record { first = 0; again = 0 } }
     {
-        Sendings {
-            first: 0,
-            timed: 0,
-            missed: 0,
-        }
+        Sendings { first: 0, again: 0 }
     }
 
-    /// A wish goes, above this cumulative TSN acknowledged (CUM): one more chunk. All indexes below `missed` were missed.
+    /// A wish goes: one more chunk.
     #[inline(always)]
-    fn count(&mut self, going: Going, cum: u64, missed: u64)
-        ensures { self.new ≡ sent_going going cum missed self.old }
+    fn count(&mut self, going: Going)
+        ensures { self.new ≡ sent_going going self.old }
     {
         match going {
             Going::Indexed(pending) if pending.again => {
-                let index = cum.wrapping_add(pending.at as u64).wrapping_add(1);
-                if index < missed {
-                    self.missed = self.missed.wrapping_add(1);
-                } else {
-                    self.timed = self.timed.wrapping_add(1);
-                }
+                self.again = self.again.wrapping_add(1);
             }
             _ => self.first = self.first.wrapping_add(1),
         }
@@ -208,23 +199,22 @@ impl Sendings {
 }
 
 impl Told {
-    /// Puts the next chunk to be sent, until none may go, at most so many, and counts them; all indexes below `missed` were missed.
+    /// Puts the next chunk to be sent, until none may go, at most so many, and counts them.
     pub(crate) fn put_all<F: Framing>(
         &self,
         stock: &mut Stock,
         most: usize,
-        missed: u64,
         packet: &mut PacketWriter,
     ) -> Sendings
         requires fresh { stock.old.tickets.items ≡ [] }
-        requires sized { IsSized self.now.fragment stock.old }
+        requires sized { IsSized F.format self.now.fragment stock.old }
         requires reserved { packet.old.space ≡ true }
         requires few { most < 2 ^ 16 }
         requires more { room_in packet.old < 16 * most }
         requires told { most ≤ vec_capacity stock.old.tickets }
         ensures all { (v : SenderView) → Keeps F.format (stocked (bare self.now) stock.old) v
-            → AllPut F.format (bare self.now) v packet.old packet.new stock.new missed result }
-        ensures sized { IsSized self.now.fragment stock.new }
+            → AllPut F.format (bare self.now) v packet.old packet.new stock.new result }
+        ensures sized { IsSized F.format self.now.fragment stock.new }
         ensures reserved { packet.new.space ≡ true }
     {
         let mut sendings = Sendings::none();
@@ -232,7 +222,7 @@ impl Told {
             let Some(going) = self.next_going::<F>(stock, packet.room()) else {
                 return sendings;
             };
-            sendings.count(going, self.cum, missed);
+            sendings.count(going);
             self.go::<F>(stock, going, packet);
         }
         sendings

@@ -5,8 +5,6 @@
 pub struct Sendings {
     /// Sent for the first time.
     pub first: u32,
-    /// Retransmitted because the data timer expired (RFC 9260, 6.3.3).
-    pub timed: u32,
-    /// Retransmitted because they were reported missing three times (RFC 9260, 7.2.4).
-    pub missed: u32,
+    /// Retransmitted (RFC 9260, 6.3.3 and 7.2.4).
+    pub again: u32,
 }

@@ -22,7 +22,7 @@ impl Told {
     /// `next_new`, where streams take turns.
     #[inline(always)]
     pub(crate) fn next_by_turn<F: Framing>(&self, stock: &Stock, room: usize) -> Option<Going>
-        requires sized { IsSized self.now.fragment stock.now }
+        requires sized { IsSized F.format self.now.fragment stock.now }
         requires turns { takes_turns F.format ≡ true }
         ensures goes { (v : SenderView) (p : PacketDraft) → Keeps F.format (stocked (bare self.now) stock.now) v → room ≡ room_in p → NothingStands F.format v → GoesAnswer F.format v p result }
         ensures can { (p : PacketDraft) → room ≡ room_in p → IfSome result (λ going. CanGo F.format p self.now stock.now going) }
@@ -39,7 +39,7 @@ impl Told {
     /// What is to take the next index may.
     #[inline(always)]
     fn lets_take<F: Framing>(&self, stock: &Stock, next: Next, room: usize) -> bool
-        requires sized { IsSized self.now.fragment stock.now }
+        requires sized { IsSized F.format self.now.fragment stock.now }
         requires within { IsNextWithin stock.now self.now.streams (Some next) }
         ensures asked { (v : SenderView) (p : PacketDraft) → Keeps F.format (stocked (bare self.now) stock.now) v → room ≡ room_in p → NothingStands F.format v → NewAnswer F.format v (Some next)
             → IsAsked F.format v p result }
@@ -58,7 +58,7 @@ impl Told {
     /// The message in part of a stream may take its next index: its fragment fits and may flow, and so does the window.
     #[inline(always)]
     fn lets_go_on<F: Framing>(&self, stock: &Stock, stream: u16, room: usize) -> bool
-        requires sized { IsSized self.now.fragment stock.now }
+        requires sized { IsSized F.format self.now.fragment stock.now }
         requires within { stream < self.now.streams }
         ensures asked { (v : SenderView) (p : PacketDraft) → Keeps F.format (stocked (bare self.now) stock.now) v → room ≡ room_in p → NothingStands F.format v → IsContinued F.format v stream
             → IsAsked F.format v p result }

@@ -101,6 +101,7 @@ fn abandon_one(
     requires counted { IsCounted size entries.old.items counts.old }
     ensures items { entries.new.items ≡ changed_at (as_abandoned ticket) at entries.old.items }
     ensures counted { IsCounted size entries.new.items counts.new }
+    ensures header { counts.new.header ≡ counts.old.header }
     ensures capacity { deque_capacity entries.new ≡ deque_capacity entries.old }
 {
     let entry = &entries[at];

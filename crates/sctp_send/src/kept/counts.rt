@@ -1,6 +1,7 @@
 //! What is counted of the entries above CUM: each count follows an entry that is added, removed or changed.
 
-ghost use Rattle.std.specs.Prelude.{◌≡◌, ℕ, ◌+◌, ◌<◌, ◌≤◌, ◌∷◌, List, min, if◌then◌else◌, map, drop, length, slice_set};
+ghost use Rattle.std.specs.Prelude.{◌≡◌, ℕ, ◌+◌, ◌-◌, ◌%◌, ◌^◌, ◌<◌, ◌≤◌, ◌∷◌, List, min, if◌then◌else◌, map, drop, length, slice_set};
+ghost use Rattle.sctp_model.specs.end.Control.{whole};
 ghost use Rattle.sctp_send.specs.SenderKept.{Item};
 ghost use Rattle.sctp_send.specs.OutstandingFields.{item_meaning};
 ghost use Rattle.std.specs.VecDeque.{deque_capacity};
@@ -11,19 +12,22 @@ ghost use Rattle.sctp_send.specs.inner.Walks.{abandoned_items};
 ghost use Rattle.sctp_send.specs.inner.Newcomers.{one_if};
 
 use crate::kept::entry::{Entry, Standing, State};
-use crate::kept::pieces::bytes_of;
-use crate::kept::wishes::{is_first_sending, is_repeat, is_unsettled, weight};
+use crate::kept::wishes::{bytes_in, is_first_sending, is_repeat, is_unsettled, weight, whole};
 use std::collections::VecDeque;
 
 /// Counts of entries, by their offsets above CUM. Sums are modulo 2^64.
 #[derive(Clone, Copy)]
 pub(crate) struct Counts {
+    /// The bytes of a chunk before its data; these don't change.
+    pub(crate) header: u16,
     /// Before this offset nothing waits to be repeated.
     pub(crate) marked: usize,
     /// Before this offset nothing is to go out for the first time.
     pub(crate) unsent: usize,
-    /// The bytes in flight.
+    /// The bytes of data in flight.
     pub(crate) flight: u64,
+    /// The bytes of the chunks that are in flight.
+    pub(crate) chunks: u64,
     /// How many entries went out, and are neither covered nor abandoned.
     pub(crate) unsettled: u64,
     /// So many entries in front are abandoned.
@@ -31,17 +35,41 @@ pub(crate) struct Counts {
 }
 
 impl Counts {
-    /// Those of no entry.
-    pub(crate) fn none() -> Counts
-        ensures { result ≡ record { marked = 0; unsent = 0; flight = 0; unsettled = 0; front = 0 } }
+    /// Those of no entry, where so many bytes of a chunk are before its data.
+    pub(crate) fn none(header: u16) -> Counts
+        ensures { result ≡ record { header = header; marked = 0; unsent = 0; flight = 0; chunks = 0; unsettled = 0; front = 0 } }
     {
         Counts {
+            header,
             marked: 0,
             unsent: 0,
             flight: 0,
+            chunks: 0,
             unsettled: 0,
             front: 0,
         }
+    }
+
+    /// A chunk with so many bytes of data is in flight.
+    #[inline(always)]
+    pub(crate) fn fly(&mut self, bytes: u32)
+        requires { bytes ≤ 65535 }
+        ensures { self.new ≡ record self.old { flight = (self.old.flight + bytes) % 2 ^ 64; chunks = (self.old.chunks + whole self.old.header bytes) % 2 ^ 64 } }
+    {
+        let chunk = whole(self.header, bytes);
+        self.flight = self.flight.wrapping_add(u64::from(bytes));
+        self.chunks = self.chunks.wrapping_add(u64::from(chunk));
+    }
+
+    /// It is in flight no more.
+    #[inline(always)]
+    pub(crate) fn land(&mut self, bytes: u32)
+        requires { bytes ≤ 65535 }
+        ensures { self.new ≡ record self.old { flight = (self.old.flight + (2 ^ 64 - bytes)) % 2 ^ 64; chunks = (self.old.chunks + (2 ^ 64 - whole self.old.header bytes)) % 2 ^ 64 } }
+    {
+        let chunk = whole(self.header, bytes);
+        self.flight = self.flight.wrapping_sub(u64::from(bytes));
+        self.chunks = self.chunks.wrapping_sub(u64::from(chunk));
     }
 
     /// One entry more counts.
@@ -50,7 +78,7 @@ impl Counts {
         requires { 0 < size }
         ensures { self.new ≡ entered (item_meaning size entry.now) self.old }
     {
-        self.flight = self.flight.wrapping_add(weight(entry, size));
+        self.fly(weight(entry, size));
         self.unsettled = self.unsettled.wrapping_add(one_if(is_unsettled(entry)));
     }
 
@@ -59,7 +87,7 @@ impl Counts {
         requires { 0 < size }
         ensures { self.new ≡ left (item_meaning size entry.now) self.old }
     {
-        self.flight = self.flight.wrapping_sub(weight(entry, size));
+        self.land(weight(entry, size));
         self.unsettled = self.unsettled.wrapping_sub(one_if(is_unsettled(entry)));
     }
 
@@ -78,8 +106,7 @@ impl Counts {
             self.front = furthest(self.front, at, !entry.abandoned);
             return;
         }
-        let bytes = bytes_of(&entry.message, entry.content, size);
-        self.flight = self.flight.wrapping_add(bytes.len() as u64);
+        self.fly(bytes_in(entry, size));
         self.unsettled = self.unsettled.wrapping_add(1);
         if self.marked == at {
             self.marked = at + 1;
@@ -136,6 +163,7 @@ pub(crate) fn stand_one(
     requires counted { IsCounted size entries.old.items counts.old }
     ensures items { entries.new.items ≡ changed_at (stood state) at entries.old.items }
     ensures counted { IsCounted size entries.new.items counts.new }
+    ensures header { counts.new.header ≡ counts.old.header }
     ensures capacity { deque_capacity entries.new ≡ deque_capacity entries.old }
 {
     let entry = &mut entries[at];

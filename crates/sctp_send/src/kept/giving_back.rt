@@ -21,6 +21,7 @@ impl Outstanding {
     /// Gives memory back, but for the entries and for this many to come.
     pub(crate) fn give_back(&mut self, owed: usize)
         ensures size { self.new.size ≡ self.old.size }
+        ensures header { self.new.header ≡ self.old.header }
         ensures items { self.new.items ≡ self.old.items }
         ensures room { length self.old.items + owed ≤ self.old.capacity → length self.new.items + owed ≤ self.new.capacity }
     {
@@ -35,6 +36,7 @@ impl Outstanding {
     fn shrink_to(&mut self, kept: usize)
         requires { length self.old.items ≤ kept }
         ensures size { self.new.size ≡ self.old.size }
+        ensures header { self.new.header ≡ self.old.header }
         ensures items { self.new.items ≡ self.old.items }
         ensures room { min kept self.old.capacity ≤ self.new.capacity }
     {

@@ -1,12 +1,13 @@
-//! An entry goes out: how it stands then, and what is counted of it (RFC 9260, 6.1 and 6.3.3).
+//! An entry goes out: how it stands then, what is counted of it, and how much is in flight (RFC 9260, 6.1 and 6.3.3).
 
-ghost use Rattle.std.specs.Prelude.{◌≡◌, ◌<◌, length};
+ghost use Rattle.std.specs.Prelude.{◌≡◌, ◌*◌, ◌%◌, ◌^◌, ◌<◌, ◌≤◌, map, length};
 ghost use Rattle.std.specs.VecDeque.{deque_capacity};
-ghost use Rattle.sctp_send.specs.OutstandingFields.{was_sent};
+ghost use Rattle.sctp_send.specs.OutstandingFields.{item_meaning, was_sent};
 ghost use Rattle.sctp_send.specs.PartsKept.{changed_at, changed};
 ghost use Rattle.sctp_send.specs.inner.Counting.{IsCounted};
 ghost use Rattle.sctp_send.specs.inner.Newcomers.{repeats_after};
 ghost use Rattle.sctp_send.specs.inner.Stocking.{went_out};
+ghost use Rattle.sctp_send.specs.inner.Wishing.{item_chunks, item_flight};
 
 use crate::kept::counts::{Counts, furthest, stand_one};
 use crate::kept::entry::{Entry, Standing, State};
@@ -16,6 +17,22 @@ use crate::kept::wishes::is_first_sending;
 use std::collections::VecDeque;
 
 impl Outstanding {
+    /// How many bytes of data are in flight, modulo 2^64.
+    pub(crate) fn flight(&self) -> u64
+        ensures flight { result ≡ item_flight (map (item_meaning self.now.size) self.now.items) % 2 ^ 64 }
+        ensures bound { item_flight (map (item_meaning self.now.size) self.now.items) ≤ length self.now.items * 65535 }
+    {
+        self.counts.flight
+    }
+
+    /// How many bytes the chunks have that are in flight, modulo 2^64.
+    pub(crate) fn chunk_flight(&self) -> u64
+        ensures flight { result ≡ item_chunks self.now.header (map (item_meaning self.now.size) self.now.items) % 2 ^ 64 }
+        ensures bound { item_chunks self.now.header (map (item_meaning self.now.size) self.now.items) ≤ length self.now.items * 131072 }
+    {
+        self.counts.chunks
+    }
+
     /// The entry at an offset goes out.
     #[inline(always)]
     pub(crate) fn send(&mut self, at: usize)
@@ -34,6 +51,7 @@ fn send_one(entries: &mut VecDeque<Entry>, counts: &mut Counts, size: u16, at: u
     requires counted { IsCounted size entries.old.items counts.old }
     ensures items { entries.new.items ≡ changed_at went_out at entries.old.items }
     ensures counted { IsCounted size entries.new.items counts.new }
+    ensures header { counts.new.header ≡ counts.old.header }
     ensures capacity { deque_capacity entries.new ≡ deque_capacity entries.old }
 {
     if !is_first_sending(&entries[at]) {
@@ -53,6 +71,7 @@ fn send_again(entries: &mut VecDeque<Entry>, counts: &mut Counts, size: u16, at:
     requires counted { IsCounted size entries.old.items counts.old }
     ensures items { entries.new.items ≡ changed_at went_out at entries.old.items }
     ensures counted { IsCounted size entries.new.items counts.new }
+    ensures header { counts.new.header ≡ counts.old.header }
     ensures capacity { deque_capacity entries.new ≡ deque_capacity entries.old }
 {
     let entry = &entries[at];

@@ -1,13 +1,13 @@
 //! The outstanding entries, those above the cumulative TSN acknowledged (CUM), with counts of them, so that no call has to look at all.
 
-ghost use Rattle.std.specs.Prelude.{◌≡◌, ℕ, ◌+◌, ◌*◌, ◌-◌, ◌<◌, ◌≤◌, ◌%◌, ◌^◌, ◌++◌, ◌∷◌, [], None, Some, drop, true, false, map, length, slice_get, slice_index_or, OnOk, OnErr};
+ghost use Rattle.std.specs.Prelude.{◌≡◌, ℕ, ◌+◌, ◌-◌, ◌<◌, ◌≤◌, ◌++◌, ◌∷◌, [], None, Some, drop, true, false, map, length, slice_get, slice_index_or, OnOk, OnErr};
 ghost use Rattle.sctp_send.specs.OutstandingFields.{item_meaning};
 ghost use Rattle.sctp_send.specs.PartsKept.{changed};
 ghost use Rattle.sctp_send.specs.declared.kept.stretches.Stretch.{Stretch};
 ghost use Rattle.sctp_send.specs.inner.Changes.{stood};
 ghost use Rattle.sctp_send.specs.inner.Stretching.{index_at, slot_at};
 ghost use Rattle.sctp_send.specs.inner.Walks.{abandoned_items, any_unsettled};
-ghost use Rattle.sctp_send.specs.inner.Wishing.{first_offset, is_item_marked, is_item_unsent, item_flight};
+ghost use Rattle.sctp_send.specs.inner.Wishing.{first_offset, is_item_marked, is_item_unsent};
 
 use crate::kept::by_ticket::ByTicket;
 use crate::kept::counts::{Counts, front_behind, stand_one};
@@ -46,22 +46,23 @@ impl Model for Outstanding {
     ghost use Rattle.std.specs.VecDeque.{deque_capacity};
     ghost use Rattle.sctp_send.specs.inner.TicketOrder.{IsInOrder};
 
-    ghost view = { λ w. record { size = w.size; items = w.entries.items; capacity = w.room } };
+    ghost view = { λ w. record { size = w.size; header = w.counts.header; items = w.entries.items; capacity = w.room } };
 
     ghost invariant = { λ w. IsInOrder w.size w.entries.items (deque_capacity w.entries) w.counts w.by_ticket w.room w.stretches.items };
 }
 
 impl Outstanding {
-    /// No entries, of fragments with at most `size` bytes.
-    pub(crate) fn new(alloc: Global, size: u16) -> Outstanding
+    /// No entries, of fragments with at most `size` bytes, whose chunks have `header` bytes before them.
+    pub(crate) fn new(alloc: Global, size: u16, header: u16) -> Outstanding
         requires { 0 < size }
         ensures size { result.size ≡ size }
+        ensures header { result.header ≡ header }
         ensures items { result.items ≡ [] }
     {
         Outstanding {
             size,
             entries: VecDeque::new(alloc),
-            counts: Counts::none(),
+            counts: Counts::none(header),
             by_ticket: ByTicket::new(alloc),
             room: 0,
             stretches: Vec::new(alloc),
@@ -83,14 +84,6 @@ impl Outstanding {
         ensures { result.now ≡ slice_index_or self.now.items at result.now }
     {
         &self.entries[at]
-    }
-
-    /// How many bytes are in flight, modulo 2^64.
-    pub(crate) fn flight(&self) -> u64
-        ensures flight { result ≡ item_flight (map (item_meaning self.now.size) self.now.items) % 2 ^ 64 }
-        ensures bound { item_flight (map (item_meaning self.now.size) self.now.items) ≤ length self.now.items * 65535 }
-    {
-        self.counts.flight
     }
 
     /// Some entry was sent, and is neither acknowledged nor abandoned.
@@ -133,6 +126,7 @@ impl Outstanding {
     #[inline(always)]
     pub(crate) fn reserve(&mut self, more: usize) -> Result<(), NoMemory>
         ensures size { self.new.size ≡ self.old.size }
+        ensures header { self.new.header ≡ self.old.header }
         ensures items { self.new.items ≡ self.old.items }
         ensures capacity { self.old.capacity ≤ self.new.capacity }
         ensures room { OnOk result (length self.new.items + more ≤ self.new.capacity) }
@@ -150,6 +144,7 @@ impl Outstanding {
     fn reserve_anew(&mut self, more: usize) -> Result<(), NoMemory>
         requires { self.old.capacity < length self.old.items + more }
         ensures size { self.new.size ≡ self.old.size }
+        ensures header { self.new.header ≡ self.old.header }
         ensures items { self.new.items ≡ self.old.items }
         ensures capacity { self.old.capacity ≤ self.new.capacity }
         ensures room { OnOk result (length self.new.items + more ≤ self.new.capacity) }
@@ -182,6 +177,7 @@ impl Outstanding {
     #[inline(always)]
     pub(crate) fn push(&mut self, entry: Entry) -> Result<(), NoMemory>
         ensures size { self.new.size ≡ self.old.size }
+        ensures header { self.new.header ≡ self.old.header }
         ensures items { OnOk result (self.new.items ≡ self.old.items ++ entry ∷ []) }
         ensures unchanged { OnErr result (self.new.items ≡ self.old.items) }
         ensures capacity { self.old.capacity ≤ self.new.capacity }

@@ -2,7 +2,7 @@
 
 ghost use Rattle.std.specs.Prelude.{◌≡◌, ◌==◌, if◌then◌else◌, is_some, Some, None, MatchOption};
 ghost use Rattle.sctp_model.specs.sender.Outgoing as model;
-ghost use Rattle.sctp_send.specs.inner.Resetting.{takes_next_in, is_later_in};
+ghost use Rattle.sctp_send.specs.inner.Resetting.{takes_next_in};
 ghost use Rattle.sctp_send.specs.ResetsKept.{numbering_meaning, pending_meaning, request_meaning};
 
 /// Which sequence number a request has that waits for its response (RFC 6525, 5.2.7).
@@ -57,16 +57,6 @@ pub(crate) fn takes_next(made: &Option<Request>) -> bool
 {
     match made {
         Some(request) => matches!(request.numbering, Some(Numbering::Next)),
-        None => false,
-    }
-}
-
-/// Whether it does, with the sequence number after one under which it was in progress.
-pub(crate) fn is_later(made: &Option<Request>) -> bool
-    ensures { result ≡ is_later_in (pending_meaning made.now) }
-{
-    match made {
-        Some(request) => matches!(request.numbering, Some(Numbering::Later)),
         None => false,
     }
 }

@@ -4,15 +4,13 @@ ghost use Rattle.std.specs.Prelude.{◌≡◌, ◌&&◌, ℕ, not, is_some, nat_
 ghost use Rattle.sctp_send.specs.OutstandingFields.{lane_of};
 ghost use Rattle.sctp_model.specs.numbers.Limits.{REQUEST_LIMIT};
 ghost use Rattle.sctp_model.specs.sender.Outgoing as model;
-ghost use Rattle.sctp_model.specs.sender.Outgoing.{is_sending};
+ghost use Rattle.sctp_model.specs.sender.Outgoing.{is_sending, is_later};
 ghost use Rattle.sctp_model.specs.sender.Resetting.{numbering_of};
-ghost use Rattle.sctp_send.specs.inner.Resetting.{listed_under, takes_next_in, is_later_in};
+ghost use Rattle.sctp_send.specs.inner.Resetting.{listed_under, takes_next_in};
 ghost use Rattle.sctp_send.specs.ResetsKept.{base_by, base_in, base_of, sending_meaning, sending_there, sending_under, is_resetting_in, made_under, numbering_meaning, pending_under, request_meaning};
 ghost use Rattle.sctp_values.specs.Meanings.{kind_meaning};
 
-use crate::kept::request::{
-    Numbering, Request, is_later, numbering_from, open_request, takes_next, waits,
-};
+use crate::kept::request::{Numbering, Request, numbering_from, open_request, takes_next, waits};
 use sctp_values::Kind;
 
 /// The most sequence numbers of requests, so that they are within half of their space.
@@ -142,12 +140,12 @@ impl OutgoingResets {
         }
     }
 
-    /// Whether a request waits whose sequence number is the one after a number under which it was in progress.
-    pub(crate) fn is_later(&self) -> bool
-        ensures { result ≡ is_later_in (pending_under self.now.table) }
+    /// Whether a request waits whose first sequence number isn't this one.
+    pub(crate) fn is_past_first(&self, number: u32) -> bool
+        ensures { (q : model.Request) → pending_under self.now.table ≡ Some q → result ≡ is_later (numbering_of q number) }
     {
-        match &self.table {
-            Some(table) => is_later(&table.last_made),
+        match self.pending() {
+            Some(request) => request.first != number,
             None => false,
         }
     }

@@ -2,7 +2,7 @@
 
 ghost use Rattle.std.specs.Prelude.{◌≡◌, ℕ, ◌<◌, ◌≤◌, Some, None, map, take, length, IfSome};
 ghost use Rattle.sctp_send.specs.OutstandingFields.{item_meaning};
-ghost use Rattle.sctp_send.specs.inner.Wishing.{first_offset, is_item_marked, is_item_unsent, is_item_wanted};
+ghost use Rattle.sctp_send.specs.inner.Wishing.{first_offset, is_item_marked, is_item_unsent, is_item_wanted, some_pending};
 
 use crate::kept::entry::Entry;
 use crate::kept::outstanding::Outstanding;
@@ -36,6 +36,28 @@ impl Outstanding {
             return Some(at);
         }
         None
+    }
+
+    /// Some entry waits to be repeated, or is to go out for the first time. Mostly the cursors say that none does.
+    #[inline(always)]
+    pub(crate) fn has_pending(&self) -> bool
+        ensures { result ≡ some_pending (map (item_meaning self.now.size) self.now.items) }
+    {
+        if self.is_all_out() {
+            return false;
+        }
+        self.finds_pending()
+    }
+
+    /// `has_pending`, by a search from the cursors on. It is not inlined, so that the tests before it are small.
+    #[inline(never)]
+    fn finds_pending(&self) -> bool
+        ensures { result ≡ some_pending (map (item_meaning self.now.size) self.now.items) }
+    {
+        if first_from(&self.entries, self.counts.marked, true) < self.entries.len() {
+            return true;
+        }
+        first_from(&self.entries, self.counts.unsent, false) < self.entries.len()
     }
 }
 

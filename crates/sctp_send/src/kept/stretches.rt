@@ -7,11 +7,11 @@ ghost use Rattle.std.specs.VecDeque.{deque_capacity};
 ghost use Rattle.sctp_send.specs.declared.kept.stretches.Stretch.{Stretch};
 ghost use Rattle.sctp_send.specs.OutstandingFields.{item_meaning};
 ghost use Rattle.sctp_send.specs.inner.Counting.{entered, IsCounted};
-ghost use Rattle.sctp_send.specs.inner.Stretching.{IsPlain, IsQuiet, entry_bytes, plain_bytes, plain_one, AreAlike, told_run, covered_run, turned_counts};
+ghost use Rattle.sctp_send.specs.inner.Stretching.{IsPlain, IsQuiet, plain_bytes, plain_one, AreAlike, told_run, covered_run, turned_counts};
 
 use crate::kept::counts::Counts;
 use crate::kept::entry::{Entry, Standing};
-use crate::kept::pieces::bytes_of;
+use crate::kept::wishes::{bytes_in, whole};
 use std::collections::VecDeque;
 
 /// The number of entries of a stretch. The index of its first one is a multiple of this number.
@@ -37,6 +37,8 @@ pub(crate) struct Stretch {
     pub(crate) plain: u8,
     /// The bytes of user data of these.
     pub(crate) bytes: u32,
+    /// The bytes of their chunks.
+    pub(crate) chunks: u32,
 }
 
 /// A stretch of which nothing is known.
@@ -45,6 +47,7 @@ pub(crate) const UNKNOWN: Stretch = Stretch {
     covered: false,
     plain: 0,
     bytes: 0,
+    chunks: 0,
 };
 
 /// The slot of the stretch that has this index.
@@ -105,15 +108,22 @@ pub(crate) fn forget_all(stretches: &mut Vec<Stretch>)
     stretches.shrink_to_fit();
 }
 
-/// Looks at the entries of the stretch that begins at an offset. It is known if all of them are quiet, and all or none acknowledged.
+/// Looks at the entries of the stretch that begins at an offset, where so many bytes of a chunk are before its data. It is known if all of them are quiet, and
+/// all or none acknowledged.
 #[inline(never)]
-pub(crate) fn look_at_stretch(entries: &VecDeque<Entry>, size: u16, at: usize) -> Stretch
+pub(crate) fn look_at_stretch(
+    entries: &VecDeque<Entry>,
+    size: u16,
+    header: u16,
+    at: usize,
+) -> Stretch
     requires some { 0 < size }
     requires within { at + 64 ≤ length entries.now.items }
-    ensures { result.is_known ≡ true → AreAlike size result.covered result.bytes result.plain at 64 entries.now.items }
+    ensures { result.is_known ≡ true → AreAlike header size result.covered result.bytes result.chunks result.plain at 64 entries.now.items }
 {
     let covered = entries[at].covered;
     let mut bytes: u32 = 0;
+    let mut chunks: u32 = 0;
     let mut plain: u8 = 0;
     for offset in at..at + STRETCH {
         let entry = &entries[offset];
@@ -123,7 +133,9 @@ pub(crate) fn look_at_stretch(entries: &VecDeque<Entry>, size: u16, at: usize) -
         if !is_quiet(entry) {
             return UNKNOWN;
         }
-        bytes += bytes_if_plain(entry, size);
+        let data = bytes_if_plain(entry, size);
+        bytes += data;
+        chunks += whole(header, data);
         plain += one_if_plain(entry);
     }
     Stretch {
@@ -131,6 +143,7 @@ pub(crate) fn look_at_stretch(entries: &VecDeque<Entry>, size: u16, at: usize) -
         covered,
         plain,
         bytes,
+        chunks,
     }
 }
 
@@ -154,15 +167,6 @@ fn one_if_plain(entry: &Entry) -> u8
     if entry.abandoned { 0 } else { 1 }
 }
 
-/// The bytes of user data of an entry.
-pub(crate) fn bytes_in(entry: &Entry, size: u16) -> u32
-    requires { 0 < size }
-    ensures bytes { result ≡ entry_bytes size entry.now }
-    ensures short { result ≤ 65535 }
-{
-    bytes_of(&entry.message, entry.content, size).len() as u32
-}
-
 /// A SACK changes nothing of the entry but whether it is acknowledged: it isn't marked for retransmission, and it was sent or is
 /// abandoned (as an end mark is, which is never sent).
 fn is_quiet(entry: &Entry) -> bool
@@ -182,25 +186,24 @@ pub(crate) fn is_plain(entry: &Entry) -> bool
     entry.standing == Standing::Sent && !entry.abandoned
 }
 
-/// All entries of a stretch are acknowledged, or none is any more: the other way round than before. `plain` of them aren't abandoned, and
-/// have `bytes` bytes of user data.
+/// All entries of a stretch, of which this is known, are acknowledged, or none is any more: the other way round than before.
 pub(crate) fn turn_stretch(
     entries: &mut VecDeque<Entry>,
     counts: &mut Counts,
     size: u16,
     at: usize,
-    bytes: u32,
-    plain: u8,
+    stretch: Stretch,
     covered: bool,
 )
-    requires alike { AreAlike size (not covered) bytes plain at 64 entries.old.items }
+    requires alike { AreAlike counts.old.header size (not covered) stretch.bytes stretch.chunks stretch.plain at 64 entries.old.items }
     requires counted { IsCounted size entries.old.items counts.old }
     ensures items { entries.new.items ≡ told_run covered at 64 entries.old.items }
     ensures counted { IsCounted size entries.new.items counts.new }
+    ensures header { counts.new.header ≡ counts.old.header }
     ensures capacity { deque_capacity entries.new ≡ deque_capacity entries.old }
 {
     set_covered(entries.make_contiguous(), at, covered);
-    counts.turn(bytes, plain, covered);
+    counts.turn(stretch, covered);
 }
 
 /// Sets the flag of each entry of a stretch.
@@ -221,20 +224,25 @@ impl Counts {
         requires plain { IsPlain false entry.now }
         ensures { self.new ≡ entered (item_meaning size entry.now) self.old }
     {
-        self.flight = self.flight.wrapping_add(u64::from(bytes_in(entry, size)));
+        self.fly(bytes_in(entry, size));
         self.unsettled = self.unsettled.wrapping_add(1);
     }
 
     /// The entries of a stretch that aren't abandoned count no more, since they are acknowledged; or they count again.
-    fn turn(&mut self, bytes: u32, plain: u8, covered: bool)
-        ensures { self.new ≡ turned_counts bytes plain covered self.old }
+    fn turn(&mut self, stretch: Stretch, covered: bool)
+        ensures { self.new ≡ turned_counts stretch.bytes stretch.chunks stretch.plain covered self.old }
     {
+        let bytes = u64::from(stretch.bytes);
+        let chunks = u64::from(stretch.chunks);
+        let plain = u64::from(stretch.plain);
         if covered {
-            self.flight = self.flight.wrapping_sub(u64::from(bytes));
-            self.unsettled = self.unsettled.wrapping_sub(u64::from(plain));
+            self.flight = self.flight.wrapping_sub(bytes);
+            self.chunks = self.chunks.wrapping_sub(chunks);
+            self.unsettled = self.unsettled.wrapping_sub(plain);
         } else {
-            self.flight = self.flight.wrapping_add(u64::from(bytes));
-            self.unsettled = self.unsettled.wrapping_add(u64::from(plain));
+            self.flight = self.flight.wrapping_add(bytes);
+            self.chunks = self.chunks.wrapping_add(chunks);
+            self.unsettled = self.unsettled.wrapping_add(plain);
         }
     }
 }

@@ -4,11 +4,11 @@
 ghost use Rattle.std.specs.Prelude.{◌≡◌, ℕ, Bool, ◌+◌, ◌<◌, ◌≤◌, ◌%◌, ◌^◌, max, true, false, nat_le, ◌-◌, ◌||◌, if◌then◌else◌, suc, map};
 ghost use Rattle.sctp_model.specs.sender.SackTaken.{some_is_bad, sack_covers};
 ghost use Rattle.sctp_send.specs.OutstandingFields.{item_meaning};
-ghost use Rattle.sctp_send.specs.inner.Weighing.{is_item_news, is_item_closed, unsettled_bytes, passes_here, AreFlying, IsTally, IsTallied, LieCovered};
+ghost use Rattle.sctp_send.specs.inner.Weighing.{is_item_news, is_item_closed, unsettled_chunk, passes_here, AreFlying, IsTally, IsTallied, LieCovered};
 
 use crate::kept::entry::{CoveredRun, Entry, Standing};
 use crate::kept::outstanding::Outstanding;
-use crate::kept::pieces::bytes_of;
+use crate::kept::wishes::{bytes_in, is_unsettled, whole};
 use sctp_wire::Blocks;
 
 /// What is newly acknowledged of the first entries above CUM.
@@ -16,7 +16,7 @@ use sctp_wire::Blocks;
 pub(crate) struct Tally {
     /// Of so many entries.
     pub(crate) at: usize,
-    /// The bytes of user data of those that were outstanding, modulo 2^64.
+    /// The bytes of the chunks of those that were outstanding, modulo 2^64.
     pub(crate) bytes: u64,
     /// The offset of the last one that was sent, counted from 1; 0 if there is none.
     pub(crate) newest: usize,
@@ -39,18 +39,20 @@ impl Tally {
         }
     }
 
-    /// With the next entry, which is acknowledged now.
-    fn with(self, entry: &Entry, size: u16) -> Tally
+    /// With the next entry, which is acknowledged now; so many bytes of its chunk are before its data.
+    fn with(self, entry: &Entry, size: u16, header: u16) -> Tally
         requires some { 0 < size }
         requires few { self.at < 0xffff_ffff_ffff_ffff }
         ensures at { result.at ≡ suc self.at }
-        ensures bytes { result.bytes ≡ (self.bytes + unsettled_bytes (item_meaning size entry.now)) % 2 ^ 64 }
+        ensures bytes { result.bytes ≡ (self.bytes + unsettled_chunk header (item_meaning size entry.now)) % 2 ^ 64 }
         ensures newest { result.newest ≡ (if is_item_news (item_meaning size entry.now) then suc self.at else self.newest) }
     {
         let at = self.at + 1;
         Tally {
             at,
-            bytes: self.bytes.wrapping_add(outstanding_bytes(entry, size)),
+            bytes: self
+                .bytes
+                .wrapping_add(outstanding_bytes(entry, size, header)),
             newest: if is_news(entry) { at } else { self.newest },
             run: self.run,
         }
@@ -72,13 +74,14 @@ impl Tally {
     #[inline(never)]
     pub(crate) fn take(self, outstanding: &Outstanding, to: usize) -> Tally
         ensures at { result.at ≡ max self.at to }
-        ensures tally { (on : ℕ → Bool) → IsTally (map (item_meaning outstanding.now.size) outstanding.now.items) on self → ((j : ℕ) → self.at < j → j ≤ to → on j ≡ true)
-            → IsTally (map (item_meaning outstanding.now.size) outstanding.now.items) on result }
+        ensures tally { (on : ℕ → Bool) → IsTally outstanding.now.header (map (item_meaning outstanding.now.size) outstanding.now.items) on self → ((j : ℕ) → self.at < j → j ≤ to → on j ≡ true)
+            → IsTally outstanding.now.header (map (item_meaning outstanding.now.size) outstanding.now.items) on result }
     {
         let size = outstanding.size;
+        let header = outstanding.counts.header;
         let mut tally = self;
         for at in self.at..to.min(outstanding.len()) {
-            tally = tally.with(outstanding.get(at), size);
+            tally = tally.with(outstanding.get(at), size, header);
         }
         tally.skip(to)
     }
@@ -86,8 +89,8 @@ impl Tally {
     /// With the entries up to `to`, which are all acknowledged now; those in the runs were before.
     fn take_gaps(self, outstanding: &Outstanding, runs: &[CoveredRun], to: usize) -> Tally
         ensures at { result.at ≡ max self.at to }
-        ensures tally { (on : ℕ → Bool) → LieCovered runs.now (map (item_meaning outstanding.now.size) outstanding.now.items) → IsTally (map (item_meaning outstanding.now.size) outstanding.now.items) on self
-            → ((j : ℕ) → self.at < j → j ≤ to → on j ≡ true) → IsTally (map (item_meaning outstanding.now.size) outstanding.now.items) on result }
+        ensures tally { (on : ℕ → Bool) → LieCovered runs.now (map (item_meaning outstanding.now.size) outstanding.now.items) → IsTally outstanding.now.header (map (item_meaning outstanding.now.size) outstanding.now.items) on self
+            → ((j : ℕ) → self.at < j → j ≤ to → on j ≡ true) → IsTally outstanding.now.header (map (item_meaning outstanding.now.size) outstanding.now.items) on result }
     {
         let mut tally = self;
         for next in self.run..runs.len() {
@@ -111,12 +114,12 @@ impl Tally {
     #[inline(always)]
     fn of_passed(outstanding: &Outstanding, to: usize) -> Tally
         ensures at { result.at ≡ to }
-        ensures tally { (on : ℕ → Bool) → ((j : ℕ) → 0 < j → j ≤ to → on j ≡ true) → IsTally (map (item_meaning outstanding.now.size) outstanding.now.items) on result }
+        ensures tally { (on : ℕ → Bool) → ((j : ℕ) → 0 < j → j ≤ to → on j ≡ true) → IsTally outstanding.now.header (map (item_meaning outstanding.now.size) outstanding.now.items) on result }
     {
         if is_in_flight(outstanding, to) {
             return Tally {
                 at: to,
-                bytes: outstanding.flight(),
+                bytes: outstanding.chunk_flight(),
                 newest: to,
                 run: 0,
             };
@@ -134,7 +137,7 @@ impl Tally {
         blocks: &Blocks<'_>,
     ) -> Tally
         ensures { LieCovered runs.now (map (item_meaning outstanding.now.size) outstanding.now.items) → some_is_bad 0 blocks.now ≡ false
-            → IsTallied (map (item_meaning outstanding.now.size) outstanding.now.items) (sack_covers passed blocks.now) result }
+            → IsTallied outstanding.now.header (map (item_meaning outstanding.now.size) outstanding.now.items) (sack_covers passed blocks.now) result }
     {
         let tally = Tally::of_passed(outstanding, passed as usize);
         if blocks.len() == 0 {
@@ -154,8 +157,8 @@ impl Tally {
     ) -> Tally
         requires { self.at ≡ passed }
         ensures { LieCovered runs.now (map (item_meaning outstanding.now.size) outstanding.now.items) → some_is_bad 0 blocks.now ≡ false
-            → IsTally (map (item_meaning outstanding.now.size) outstanding.now.items) (sack_covers passed blocks.now) self
-            → IsTallied (map (item_meaning outstanding.now.size) outstanding.now.items) (sack_covers passed blocks.now) result }
+            → IsTally outstanding.now.header (map (item_meaning outstanding.now.size) outstanding.now.items) (sack_covers passed blocks.now) self
+            → IsTallied outstanding.now.header (map (item_meaning outstanding.now.size) outstanding.now.items) (sack_covers passed blocks.now) result }
     {
         let passed = passed as usize;
         let mut tally = self;
@@ -171,7 +174,7 @@ impl Tally {
     /// What the cumulative TSN of a SHUTDOWN newly acknowledges that passes so many entries; no gap block acknowledges an entry beyond `top`.
     pub(crate) fn of_shutdown(outstanding: &Outstanding, top: usize, passed: u32) -> Tally
         ensures { ((j : ℕ) → top < j → passes_here is_item_closed (map (item_meaning outstanding.now.size) outstanding.now.items) (j - 1) ≡ false)
-            → IsTallied (map (item_meaning outstanding.now.size) outstanding.now.items) (λ j. nat_le j passed || passes_here is_item_closed (map (item_meaning outstanding.now.size) outstanding.now.items) (j - 1)) result }
+            → IsTallied outstanding.now.header (map (item_meaning outstanding.now.size) outstanding.now.items) (λ j. nat_le j passed || passes_here is_item_closed (map (item_meaning outstanding.now.size) outstanding.now.items) (j - 1)) result }
     {
         let passed = passed as usize;
         Tally::of_passed(outstanding, passed).skip(last_closed(outstanding, passed, top))
@@ -212,13 +215,13 @@ fn last_closed(outstanding: &Outstanding, from: usize, to: usize) -> usize
     from
 }
 
-/// The bytes of user data of an entry that is outstanding; 0 of any other.
-fn outstanding_bytes(entry: &Entry, size: u16) -> u64
+/// The bytes of the chunk of an entry that is outstanding; 0 of any other.
+fn outstanding_bytes(entry: &Entry, size: u16, header: u16) -> u64
     requires { 0 < size }
-    ensures { result ≡ unsettled_bytes (item_meaning size entry.now) }
+    ensures { result ≡ unsettled_chunk header (item_meaning size entry.now) }
 {
-    if entry.standing != Standing::Unsent && !entry.covered && !entry.abandoned {
-        bytes_of(&entry.message, entry.content, size).len() as u64
+    if is_unsettled(entry) {
+        u64::from(whole(header, bytes_in(entry, size)))
     } else {
         0
     }

@@ -1,6 +1,7 @@
 //! What an acknowledgement does, weighed before it is taken (RFC 9260, 6.3.1 and 7.2).
 
 ghost use Rattle.std.specs.Prelude.{◌≡◌, ℕ, Bool, Option, ◌+◌, ◌-◌, ◌<◌, ◌≤◌, ◌%◌, ◌^◌, ◌||◌, ◌&&◌, not, nat_lt, nat_le, true, false, None, map, length, IfSome};
+ghost use Rattle.sctp_model.specs.messages.Framing.{header_of};
 ghost use Rattle.sctp_model.specs.sender.SenderView.{SenderView};
 ghost use Rattle.sctp_model.specs.sender.Words.{when};
 ghost use Rattle.sctp_model.specs.sender.SackTaken.{sack_fault, sack_after, sack_covers, shutdown_fault, shutdown_after};
@@ -27,7 +28,7 @@ impl<F: Framing> Sender<F> {
     /// What a SACK does that `on_sack` would accept; asked before `on_sack`. `timed` is the index of the chunk that is timed, if there is one. It costs
     /// the SACK's blocks, the runs of the last one, what CUM passes, and what is newly acknowledged; of one that would be refused its blocks alone.
     pub fn weigh(&self, sack: &Sack<'_>, timed: Option<u64>) -> Weight
-        ensures { (v : SenderView) → StandsFor F.format self.now v → sack_fault v (sack_meaning sack.now) ≡ None → IsWeight v (sack_after v (sack_meaning sack.now)) timed result }
+        ensures { (v : SenderView) → StandsFor F.format self.now v → sack_fault v (sack_meaning sack.now) ≡ None → IsWeight F.format v (sack_after v (sack_meaning sack.now)) timed result }
     {
         let Ok(passed) = self.passed_by_sack(sack) else {
             return Weight::none();
@@ -44,7 +45,7 @@ impl<F: Framing> Sender<F> {
 
     /// What the cumulative TSN of a SHUTDOWN does that `on_shutdown` would accept; asked before `on_shutdown`.
     pub fn weigh_shutdown(&self, tsn: u32, timed: Option<u64>) -> Weight
-        ensures { (v : SenderView) → StandsFor F.format self.now v → shutdown_fault v tsn ≡ None → IsWeight v (shutdown_after v tsn) timed result }
+        ensures { (v : SenderView) → StandsFor F.format self.now v → shutdown_fault v tsn ≡ None → IsWeight F.format v (shutdown_after v tsn) timed result }
     {
         let Ok(passed) = self.passed_by(tsn) else {
             return Weight::none();
@@ -60,8 +61,8 @@ impl<F: Framing> Sender<F> {
 
     /// The weight of an acknowledgement that moves CUM by so many, and acknowledges what is tallied.
     fn weight_of(&self, passed: u32, tally: Tally, acked: bool) -> Weight
-        ensures { (v u : SenderView) (on : ℕ → Bool) (timed : Option ℕ) → StandsFor F.format self.now v → IsAfter v u on passed → IsTallied self.now.items on tally
-            → IfSome timed (λ i. acked ≡ (nat_lt v.cum i && (on (i - v.cum) && not (was_given_up v i)))) → IsWeight v u timed result }
+        ensures { (v u : SenderView) (on : ℕ → Bool) (timed : Option ℕ) → StandsFor F.format self.now v → IsAfter v u on passed → IsTallied (header_of F.format) self.now.items on tally
+            → IfSome timed (λ i. acked ≡ (nat_lt v.cum i && (on (i - v.cum) && not (was_given_up v i)))) → IsWeight F.format v u timed result }
     {
         let newest = self.above_cum(tally.newest);
         Weight {

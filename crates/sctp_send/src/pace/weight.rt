@@ -1,7 +1,7 @@
 //! What congestion control weighs of an acknowledgement.
 
-/// What an acknowledgement does, before it is taken (RFC 9260, 6.3.1 and 7.2): indexes count TSNs without wrapping from 1 on, and sizes are bytes of user
-/// data.
+/// What an acknowledgement does, before it is taken (RFC 9260, 6.3.1 and 7.2): indexes count TSNs without wrapping from 1 on, and sizes are
+/// bytes of chunks, with their headers and padding.
 #[derive(Clone, Copy, Debug)]
 pub struct Weight {
     /// It moves the cumulative TSN.

@@ -52,6 +52,7 @@ pub(crate) fn reserve_message(
     ensures room { OnOk result (length fates.new.items < fates.new.capacity) }
     ensures moment { OnOk result (length dues.new.moments < dues.new.capacity) }
     ensures size { outstanding.new.size ≡ outstanding.old.size }
+    ensures header { outstanding.new.header ≡ outstanding.old.header }
     ensures entries { outstanding.new.items ≡ outstanding.old.items }
     ensures wider { outstanding.old.capacity ≤ outstanding.new.capacity }
     ensures fits { OnOk result (length outstanding.new.items + entries ≤ outstanding.new.capacity) }

@@ -4,8 +4,7 @@
 ghost use Rattle.std.specs.Prelude.{◌≡◌, ◌&&◌, ℕ, Some};
 ghost use Rattle.sctp_model.specs.wire.Reconfig.{is_progress_code, is_number_code};
 ghost use Rattle.sctp_model.specs.sender.Outgoing as model;
-ghost use Rattle.sctp_model.specs.sender.Outgoing.{is_later};
-ghost use Rattle.sctp_model.specs.sender.Resetting.{is_open_number, numbered_so, retried, kept_asking, number_back, reset_done, response_taken};
+ghost use Rattle.sctp_model.specs.sender.Resetting.{is_open_number, numbered_so, retried, kept_asking, number_back, reset_done, response_taken, is_past_first};
 ghost use Rattle.sctp_model.specs.sender.SenderView.{SenderView};
 ghost use Rattle.sctp_send.specs.ResetsKept.{numbering_meaning};
 ghost use Rattle.sctp_send.specs.SenderStands.{StandsFor};
@@ -32,9 +31,9 @@ const IN_PROGRESS: u32 = 6;
 impl<F: Framing> Sender<F> {
     /// The peer's response to the request with this sequence number: its result (Re-configuration Response; RFC 6525, 4.4 and 5.2.7). A response to
     /// another number than that of the request that waits changes nothing. 0 and 1: the streams are reset, their numbers begin anew, and they take messages
-    /// again. 4 and 6: the request keeps its number until it is retransmitted (`retry_request`), so that a response to that still counts. 5, after a number
-    /// under which it was in progress: the peer has not counted that one, which the request has again, and so on back to its first. Any other: its streams
-    /// take no messages until their reset is asked for again.
+    /// again. 4 and 6: the request keeps its number until it is retransmitted (`retry_request`), so that a response to that still counts. 5, to another number
+    /// than its first: the peer has not counted the one before, which the request has again, and so on back to its first. Any other: its streams take no
+    /// messages until their reset is asked for again.
     pub fn on_response(&mut self, number: u32, code: u32)
         ensures { (v : SenderView) → StandsFor F.format self.old v → StandsFor F.format self.new (response_taken v number code) }
     {
@@ -67,11 +66,12 @@ impl<F: Framing> Sender<F> {
         self.renumber(made + 1, Numbering::Later);
     }
 
-    /// The result says that the peer hasn't counted the number under which the request that waits was in progress (RFC 6525, 4.4).
+    /// The result says that the peer hasn't counted the number before that of the request that waits, which isn't its first (RFC 6525, 4.4).
     fn is_uncounted(&self, code: u32) -> bool
-        ensures { (v : SenderView) (q : model.Request) → StandsFor F.format self.now v → v.resets.pending ≡ Some q → result ≡ (is_number_code code && is_later q.numbering) }
+        ensures { (v : SenderView) (q : model.Request) → StandsFor F.format self.now v → v.resets.pending ≡ Some q → result ≡ (is_number_code code && is_past_first v q) }
     {
-        code == BAD_NUMBER && self.told.resets.is_later()
+        let made = self.told.resets.made();
+        code == BAD_NUMBER && self.told.resets.is_past_first(made)
     }
 
     /// The request that waits is in progress: it keeps its number until it is retransmitted.

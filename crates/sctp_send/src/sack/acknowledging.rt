@@ -10,7 +10,8 @@ ghost use Rattle.sctp_send.specs.inner.Stretching.{IsPlain};
 
 use crate::kept::counts::Counts;
 use crate::kept::entry::{Entry, unmarked};
-use crate::kept::stretches::{bytes_in, is_plain};
+use crate::kept::stretches::is_plain;
+use crate::kept::wishes::bytes_in;
 use std::collections::VecDeque;
 
 impl Counts {
@@ -20,7 +21,7 @@ impl Counts {
         requires plain { IsPlain false entry.now }
         ensures { self.new ≡ left (item_meaning size entry.now) self.old }
     {
-        self.flight = self.flight.wrapping_sub(u64::from(bytes_in(entry, size)));
+        self.land(bytes_in(entry, size));
         self.unsettled = self.unsettled.wrapping_sub(1);
     }
 }
@@ -40,6 +41,7 @@ pub(crate) fn tell_entries(
     requires counted { IsCounted size entries.old.items counts.old }
     ensures items { entries.new.items ≡ told_where covered (is_between from to) 1 entries.old.items }
     ensures counted { IsCounted size entries.new.items counts.new }
+    ensures header { counts.new.header ≡ counts.old.header }
     ensures capacity { deque_capacity entries.new ≡ deque_capacity entries.old }
 {
     for at in from..to {
@@ -60,6 +62,7 @@ pub(crate) fn tell_one(
     requires counted { IsCounted size entries.old.items counts.old }
     ensures items { entries.new.items ≡ changed_at (told covered) at entries.old.items }
     ensures counted { IsCounted size entries.new.items counts.new }
+    ensures header { counts.new.header ≡ counts.old.header }
     ensures capacity { deque_capacity entries.new ≡ deque_capacity entries.old }
 {
     if covered {
@@ -75,6 +78,7 @@ fn cover_one(entries: &mut VecDeque<Entry>, counts: &mut Counts, size: u16, at: 
     requires counted { IsCounted size entries.old.items counts.old }
     ensures items { entries.new.items ≡ changed_at as_covered at entries.old.items }
     ensures counted { IsCounted size entries.new.items counts.new }
+    ensures header { counts.new.header ≡ counts.old.header }
     ensures capacity { deque_capacity entries.new ≡ deque_capacity entries.old }
 {
     let entry = &mut entries[at];
@@ -94,6 +98,7 @@ fn uncover_one(entries: &mut VecDeque<Entry>, counts: &mut Counts, size: u16, at
     requires counted { IsCounted size entries.old.items counts.old }
     ensures items { entries.new.items ≡ changed_at as_uncovered at entries.old.items }
     ensures counted { IsCounted size entries.new.items counts.new }
+    ensures header { counts.new.header ≡ counts.old.header }
     ensures capacity { deque_capacity entries.new ≡ deque_capacity entries.old }
 {
     let entry = &mut entries[at];

@@ -63,7 +63,7 @@ impl Outstanding {
     {
         keep_shells(&mut self.entries, shells, alloc);
         self.by_ticket.clear();
-        self.counts = Counts::none();
+        self.counts = Counts::none(self.counts.header);
     }
 }
 

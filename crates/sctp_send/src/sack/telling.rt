@@ -120,8 +120,7 @@ impl Outstanding {
             &mut self.counts,
             self.size,
             at,
-            known.bytes,
-            known.plain,
+            known,
             covered,
         );
         let turned = Stretch { covered, ..known };
@@ -156,7 +155,7 @@ impl Outstanding {
         if index % 64 != 0 || self.entries.len() > MOST_KNOWN || self.stretches.is_empty() {
             return;
         }
-        let known = look_at_stretch(&self.entries, self.size, at);
+        let known = look_at_stretch(&self.entries, self.size, self.counts.header, at);
         put_stretch(&mut self.stretches, index, known);
     }
 

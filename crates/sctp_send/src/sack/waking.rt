@@ -60,7 +60,7 @@ fn wake(dues: &mut Dues, outstanding: &Outstanding)
 /// Each of the runs lies in a block, once `passed` entries in front were removed. The runs and the blocks are in order. It is not inlined, so that other
 /// SACKs cost little.
 #[inline(never)]
-fn lie_in(runs: &[CoveredRun], passed: usize, blocks: &Blocks<'_>) -> bool
+pub(crate) fn lie_in(runs: &[CoveredRun], passed: usize, blocks: &Blocks<'_>) -> bool
     ensures { result ≡ true → LieIn passed runs.now blocks.now }
 {
     let mut next = 0;

@@ -1,14 +1,10 @@
-use Rattle.std.proofs.Common.{sym, subst}
-use Rattle.std.specs.Prelude.{Option}
-use Rattle.sctp_model.specs.end.Pacing.{Pace}
-use Rattle.sctp_association.specs.Drafted.{IsPacked}
-use Rattle.sctp_association.proofs.BuildLemmas.{full_packet, fills_packet}
+use Rattle.sctp_association.proofs.BuildLemmas.{full_packet, whole_so, fills_packet}
 use Rattle.sctp_association.proofs.build.pack_open.Goals as goal
 
 pub returns-then-not-branch-clause-packed : goal.returns-then-not-branch-clause-packed
 returns-then-not-branch-clause-packed c = λ e t g phase part pace clock empty.
     let full = full_packet e t g c.args.packing.now c.put_open.new.packing _ c.filled_none.result phase part.unasked empty c.if-not-branch.true (c.in_ok-put_open.ensures e part empty.packet) c.filled_none.ensures in
-    (e.sender, subst (λ (o : Option Pace). IsPacked e e.sender o c.put_open.new.packing c.filled_none.result) (sym pace) full, part.traffic_stands)
+    whole_so e c.put_open.new.packing c.filled_none.result _ _ full part.traffic_stands pace
 
 pub returns-clause-packed : goal.returns-clause-packed
 returns-clause-packed c = λ e t g phase part pace clock empty.

@@ -1,11 +1,11 @@
 use Rattle.std.proofs.Common.{◌≡◌, Bool, true, false, refl}
-use Rattle.sctp_cookie.specs.CookieTree.{body_meaning}
-use Rattle.sctp_cookie.specs.Opens.{is_made}
+use Rattle.std.specs.Prelude.{not, ◌||◌}
+use Rattle.std.proofs.lemmas.Bool.{and_from}
 use Rattle.sctp_cookie.proofs.sealing.seal.Goals as goal
 
 pub returns-clause-opens : goal.returns-clause-opens
-returns-clause-opens c = λ resets now young. c.seal_content.ensures.opens resets now (all resets) young
+returns-clause-opens c = λ taken now young. c.seal_content.ensures.opens taken now (and_from _ _ (all taken.reset) (all taken.zero_checksum)) young
   where
-    all : (r : Bool) → is_made r (body_meaning c.args.body.now) ≡ true
+    all : (r : Bool) → (r || not false) ≡ true
     all true = refl
     all false = refl

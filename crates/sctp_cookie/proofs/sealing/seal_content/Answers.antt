@@ -16,8 +16,8 @@ returns-clause-sealed c =
     (placed_behind (body_bytes body) (hmac c.args.key.now (body_bytes body)) (length-body_bytes body))
 
 pub returns-clause-opens : goal.returns-clause-opens
-returns-clause-opens c = λ resets now made young.
-    rw (returns-clause-sealed c) (sealed-opens resets c.args.key.now now (content_meaning c.args.content.now) c.body_bytes-body.ensures.in_range made young)
+returns-clause-opens c = λ taken now made young.
+    rw (returns-clause-sealed c) (sealed-opens taken c.args.key.now now (content_meaning c.args.content.now) c.body_bytes-body.ensures.in_range made young)
 
 pub returns-clause-one : goal.returns-clause-one
 returns-clause-one c = λ other other_in_range same.

@@ -16,6 +16,9 @@ returns-in-Sack-clause-step c = λ v stands. rw c.in-Sack.is (c.on_sack.ensures.
 pub returns-in-Heartbeat-clause-step : goal.returns-in-Heartbeat-clause-step
 returns-in-Heartbeat-clause-step c = λ v stands. rw c.in-Heartbeat.is (c.on_heartbeat.ensures.step v stands)
 
+pub returns-in-HeartbeatAck-clause-step : goal.returns-in-HeartbeatAck-clause-step
+returns-in-HeartbeatAck-clause-step c = λ v stands. rw c.in-HeartbeatAck.is (c.on_heartbeat_ack.ensures v c.args.tag stands)
+
 pub returns-in-Abort-clause-step : goal.returns-in-Abort-clause-step
 returns-in-Abort-clause-step c = λ v stands. rw c.in-Abort.is (c.on_abort.ensures v c.args.tag false [] stands)
 

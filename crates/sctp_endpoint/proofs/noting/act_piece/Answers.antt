@@ -26,7 +26,7 @@ returns c = λ tag v stands.
       took.2,
       rw (c.acknowledge.ensures, c.asks_at_once.ensures p refl)
           (subst (λ (x : EndView). GoesOnBehind tag v k (data_chunk (format_for c.args.interleaved) p) x (noted note k)) (rests w h.tags h.phase)
-          (piece_goes_on c.args.interleaved tag v w k note p (PieceComes h.tags Established a took.0 h.phase refl h.some h.same took.1))),
+          (piece_goes_on c.args.interleaved tag v w k note p (PieceComes h.tags Established a took.0 h.phase refl h.some h.same took.1 (c.in_ok-answer.ensures.lenient v took.1.c stands)))),
     )
 
 pub returns-in_err-answer : goal.returns-in_err-answer

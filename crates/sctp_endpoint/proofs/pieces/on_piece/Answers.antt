@@ -54,4 +54,4 @@ returns-clause-step c = λ v stands.
     let took = c.in_ok-answer.ensures.step v t g stands phase in
     let a = answer_of c.in_ok-answer.answer in
     let came : EndView = record v { receiver = took.0 } in
-    (with_causes (piece_causes v p a) came, rw (c.asks_at_once.ensures p refl) (PieceComes t g a took.0 phase takes some same took.1), took.2)
+    (with_causes (piece_causes v p a) came, rw (c.asks_at_once.ensures p refl) (PieceComes t g a took.0 phase takes some same took.1 (c.in_ok-answer.ensures.lenient v took.1.c stands)), took.2)

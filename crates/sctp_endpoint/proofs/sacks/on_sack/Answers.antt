@@ -22,22 +22,28 @@ returns-then-not-takes_acknowledgements-clause-step c = λ v stands. (
 pub returns-in-Ok-clause-step : goal.returns-in-Ok-clause-step
 returns-in-Ok-clause-step c = λ v stands.
     let phase = c.in-Some.ensures v stands in
-    let hears = hears_by takes_acknowledgements v.phase _ _ true c.takes_acknowledgements.result phase c.takes_acknowledgements.ensures c.if-not-takes_acknowledgements.false in
-    (sack_heard v (sack_meaning c.args.sack.now), SackCounts hears (sym (c.in-Ok.ensures.answer v _ _ stands phase)), c.in-Ok.ensures.step v _ _ stands phase)
+    let hears = hears_by takes_acknowledgements v.phase _ _ true c.takes_acknowledgements.result phase c.takes_acknowledgements.ensures c.if-not-takes_acknowledgements.false in (
+      sack_heard v (sack_meaning c.args.sack.now),
+      SackCounts hears (sym (rw c.in-Ok.is at c.in_ok-hear_sack.ensures.answer v _ _ stands phase)),
+      rw c.in-Ok.is at c.in_ok-hear_sack.ensures.step v _ _ stands phase,
+    )
 
 pub returns-in-Err-Stale-clause-step : goal.returns-in-Err-Stale-clause-step
 returns-in-Err-Stale-clause-step c = λ v stands.
     let phase = c.in-Some.ensures v stands in
-    let hears = hears_by takes_acknowledgements v.phase _ _ true c.takes_acknowledgements.result phase c.takes_acknowledgements.ensures c.if-not-takes_acknowledgements.false in
-    (v, SackStale hears (sym (rw c.in-Err-Stale.field-0-is at c.in-Err-Stale.ensures.answer v _ _ stands phase)), c.in-Err-Stale.ensures.refused v _ _ stands phase)
+    let hears = hears_by takes_acknowledgements v.phase _ _ true c.takes_acknowledgements.result phase c.takes_acknowledgements.ensures c.if-not-takes_acknowledgements.false in (
+      v,
+      SackStale hears (sym (rw (c.in-Err-Stale.is, c.in-Err-Stale.field-0-is) at c.in_ok-hear_sack.ensures.answer v _ _ stands phase)),
+      rw c.in-Err-Stale.is at c.in_ok-hear_sack.ensures.refused v _ _ stands phase,
+    )
 
 pub returns-in_ok-abort_with-in-Err-Beyond-clause-step : goal.returns-in_ok-abort_with-in-Err-Beyond-clause-step
 returns-in_ok-abort_with-in-Err-Beyond-clause-step c = λ v stands.
     let phase = c.in-Some.ensures v stands in
     let t = tags_meaning c.in-Some.opened.tags in
     let takes = sym c.takes_acknowledgements.ensures ∙ c.if-not-takes_acknowledgements.false in
-    let fault = sym (rw c.in-Err-Beyond.field-0-is at c.in-Err-Beyond.ensures.answer v _ _ stands phase) in
-    let same = c.in-Err-Beyond.ensures.refused v _ _ stands phase in
+    let fault = sym (rw (c.in-Err-Beyond.is, c.in-Err-Beyond.field-0-is) at c.in_ok-hear_sack.ensures.answer v _ _ stands phase) in
+    let same = rw c.in-Err-Beyond.is at c.in_ok-hear_sack.ensures.refused v _ _ stands phase in
     let made = c.in_ok-abort_with-in-Err-Beyond.ensures.step v same in (
       closed AbortedHere v,
       packet_to v.configuration t.peer (abort_for violation),
@@ -50,15 +56,15 @@ returns-in_ok-abort_with-in-Err-Beyond-clause-step c = λ v stands.
 pub returns-in_err-abort_with-in-Err-Beyond-clause-refused : goal.returns-in_err-abort_with-in-Err-Beyond-clause-refused
 returns-in_err-abort_with-in-Err-Beyond-clause-refused c = λ v stands.
     let phase = c.in-Some.ensures v stands in
-    on_err _ _ (c.in_err-abort_with-in-Err-Beyond.ensures.refused v (c.in-Err-Beyond.ensures.refused v _ _ stands phase))
+    on_err _ _ (c.in_err-abort_with-in-Err-Beyond.ensures.refused v (rw c.in-Err-Beyond.is at c.in_ok-hear_sack.ensures.refused v _ _ stands phase))
 
 pub returns-in_ok-abort_with-in-Err-BadBlock-clause-step : goal.returns-in_ok-abort_with-in-Err-BadBlock-clause-step
 returns-in_ok-abort_with-in-Err-BadBlock-clause-step c = λ v stands.
     let phase = c.in-Some.ensures v stands in
     let t = tags_meaning c.in-Some.opened.tags in
     let takes = sym c.takes_acknowledgements.ensures ∙ c.if-not-takes_acknowledgements.false in
-    let fault = sym (rw c.in-Err-BadBlock.field-0-is at c.in-Err-BadBlock.ensures.answer v _ _ stands phase) in
-    let same = c.in-Err-BadBlock.ensures.refused v _ _ stands phase in
+    let fault = sym (rw (c.in-Err-BadBlock.is, c.in-Err-BadBlock.field-0-is) at c.in_ok-hear_sack.ensures.answer v _ _ stands phase) in
+    let same = rw c.in-Err-BadBlock.is at c.in_ok-hear_sack.ensures.refused v _ _ stands phase in
     let made = c.in_ok-abort_with-in-Err-BadBlock.ensures.step v same in (
       closed AbortedHere v,
       packet_to v.configuration t.peer (abort_for violation),
@@ -71,4 +77,7 @@ returns-in_ok-abort_with-in-Err-BadBlock-clause-step c = λ v stands.
 pub returns-in_err-abort_with-in-Err-BadBlock-clause-refused : goal.returns-in_err-abort_with-in-Err-BadBlock-clause-refused
 returns-in_err-abort_with-in-Err-BadBlock-clause-refused c = λ v stands.
     let phase = c.in-Some.ensures v stands in
-    on_err _ _ (c.in_err-abort_with-in-Err-BadBlock.ensures.refused v (c.in-Err-BadBlock.ensures.refused v _ _ stands phase))
+    on_err _ _ (c.in_err-abort_with-in-Err-BadBlock.ensures.refused v (rw c.in-Err-BadBlock.is at c.in_ok-hear_sack.ensures.refused v _ _ stands phase))
+
+pub returns-in_err-hear_sack-clause-refused : goal.returns-in_err-hear_sack-clause-refused
+returns-in_err-hear_sack-clause-refused c = λ v stands. on_err _ _ (c.in_err-hear_sack.ensures.memory v _ _ stands (c.in-Some.ensures v stands))

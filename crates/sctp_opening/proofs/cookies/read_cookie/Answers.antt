@@ -6,14 +6,14 @@ pub returns-in-Ok-clause-read : goal.returns-in-Ok-clause-read
 returns-in-Ok-clause-read c = λ s e under at.
     let a = c.args in
     let law = c.cookies_are_read.ensures a.key.now a.cookie.now a.tag s e under in
-    read_is a.key.now a.cookie.now a.now a.config.now a.tag s e at law _ c.ports_of-ports.ensures _ c.reset-resets.ensures _ c.in-Ok.ensures.answer
+    read_is a.key.now a.cookie.now a.now a.config.now a.tag s e at law _ c.ports_of-ports.ensures _ c.options_of-taken.ensures _ c.in-Ok.ensures.answer
 
 pub returns-in-Err-Stale-clause-read : goal.returns-in-Err-Stale-clause-read
 returns-in-Err-Stale-clause-read c = λ s e under at.
     let a = c.args in
     let law = c.cookies_are_read.ensures a.key.now a.cookie.now a.tag s e under in
     late_reading _ _ _ c.late.ensures
-    ∙ read_is a.key.now a.cookie.now a.now a.config.now a.tag s e at law _ c.ports_of-ports.ensures _ c.reset-resets.ensures _ (rw c.in-Err-Stale.field-0-is at c.in-Err-Stale.ensures.answer)
+    ∙ read_is a.key.now a.cookie.now a.now a.config.now a.tag s e at law _ c.ports_of-ports.ensures _ c.options_of-taken.ensures _ (rw c.in-Err-Stale.field-0-is at c.in-Err-Stale.ensures.answer)
 
 pub returns-in-Err-Stale-clause-late : goal.returns-in-Err-Stale-clause-late
 returns-in-Err-Stale-clause-late c =
@@ -25,22 +25,22 @@ pub returns-in-Err-Form-clause-read : goal.returns-in-Err-Form-clause-read
 returns-in-Err-Form-clause-read c = λ s e under at.
     let a = c.args in
     let law = c.cookies_are_read.ensures a.key.now a.cookie.now a.tag s e under in
-    read_is a.key.now a.cookie.now a.now a.config.now a.tag s e at law _ c.ports_of-ports.ensures _ c.reset-resets.ensures _ (rw c.in-Err-Form.field-0-is at c.in-Err-Form.ensures.answer)
+    read_is a.key.now a.cookie.now a.now a.config.now a.tag s e at law _ c.ports_of-ports.ensures _ c.options_of-taken.ensures _ (rw c.in-Err-Form.field-0-is at c.in-Err-Form.ensures.answer)
 
 pub returns-in-Err-Mac-clause-read : goal.returns-in-Err-Mac-clause-read
 returns-in-Err-Mac-clause-read c = λ s e under at.
     let a = c.args in
     let law = c.cookies_are_read.ensures a.key.now a.cookie.now a.tag s e under in
-    read_is a.key.now a.cookie.now a.now a.config.now a.tag s e at law _ c.ports_of-ports.ensures _ c.reset-resets.ensures _ (rw c.in-Err-Mac.field-0-is at c.in-Err-Mac.ensures.answer)
+    read_is a.key.now a.cookie.now a.now a.config.now a.tag s e at law _ c.ports_of-ports.ensures _ c.options_of-taken.ensures _ (rw c.in-Err-Mac.field-0-is at c.in-Err-Mac.ensures.answer)
 
 pub returns-in-Err-Ports-clause-read : goal.returns-in-Err-Ports-clause-read
 returns-in-Err-Ports-clause-read c = λ s e under at.
     let a = c.args in
     let law = c.cookies_are_read.ensures a.key.now a.cookie.now a.tag s e under in
-    read_is a.key.now a.cookie.now a.now a.config.now a.tag s e at law _ c.ports_of-ports.ensures _ c.reset-resets.ensures _ (rw c.in-Err-Ports.field-0-is at c.in-Err-Ports.ensures.answer)
+    read_is a.key.now a.cookie.now a.now a.config.now a.tag s e at law _ c.ports_of-ports.ensures _ c.options_of-taken.ensures _ (rw c.in-Err-Ports.field-0-is at c.in-Err-Ports.ensures.answer)
 
 pub returns-in-Err-Tag-clause-read : goal.returns-in-Err-Tag-clause-read
 returns-in-Err-Tag-clause-read c = λ s e under at.
     let a = c.args in
     let law = c.cookies_are_read.ensures a.key.now a.cookie.now a.tag s e under in
-    read_is a.key.now a.cookie.now a.now a.config.now a.tag s e at law _ c.ports_of-ports.ensures _ c.reset-resets.ensures _ (rw c.in-Err-Tag.field-0-is at c.in-Err-Tag.ensures.answer)
+    read_is a.key.now a.cookie.now a.now a.config.now a.tag s e at law _ c.ports_of-ports.ensures _ c.options_of-taken.ensures _ (rw c.in-Err-Tag.field-0-is at c.in-Err-Tag.ensures.answer)

@@ -1,8 +1,9 @@
-use Rattle.std.proofs.Common.{None, Some, refl}
+use Rattle.std.proofs.Common.{None, Some, refl, subst}
 use Rattle.std.proofs.lemmas.Result.{err_from_is_err_and}
 use Rattle.sctp_model.specs.world.World.{end_of, bag_of, log_of}
 use Rattle.sctp_model.specs.world.Events as meaning
 use Rattle.sctp_model.specs.world.Steps as steps
+use Rattle.sctp_terms.specs.PlainOptions.{HasPlainOptions}
 use Rattle.sctp_recv.specs.HandedOf.{handed_of}
 use Rattle.sctp_outcomes.proofs.logs.Called.{take_takes_one}
 use Rattle.sctp_pair.specs.Noted.{AreNoted}
@@ -17,7 +18,8 @@ pub returns-in_default-clause-step : goal.returns-in_default-clause-step
 unfolding SideStands
 returns-in_default-clause-step c = λ w s stands.
     let v = end_of w s in
-    let none = nothing_taken v c.args.stream (c.in_default.ensures v stands.end) in
+    let options : HasPlainOptions v.configuration = subst HasPlainOptions (c.config.ensures v stands.end) c.limit-limit.ensures.plain in
+    let none = nothing_taken v c.args.stream options (c.in_default.ensures v stands.end) in
     (side v (bag_of w s) (log_of w s), takes w s c.args.stream None v none, stands)
 
 pub returns-in_err-make_room_at-clause-step : goal.returns-in_err-make_room_at-clause-step

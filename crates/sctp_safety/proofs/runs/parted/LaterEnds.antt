@@ -1,5 +1,5 @@
 -- What happens at an endpoint that has met its peer leaves its sender and its receiver as later ones.
-use Rattle.std.proofs.Common.{◌≡◌, ℕ, suc, ◌==◌, ◌&&◌, ◌||◌, not, Bool, true, false, List, [], ◌∷◌, ◌++◌, length, is_some, Option, Some, None, inl, inr, refl, sym, subst, ap, ◌∙◌, eqb-true, if◌then◌else◌}
+use Rattle.std.proofs.Common.{◌≡◌, ℕ, suc, ◌≤◌, ◌⊎◌, ◌==◌, ◌&&◌, ◌||◌, not, Bool, true, false, List, [], ◌∷◌, ◌++◌, length, is_some, Option, Some, None, inl, inr, refl, sym, subst, ap, ◌∙◌, arith, eqb-true, if◌then◌else◌}
 use Rattle.std.specs.List.{list_any}
 use Rattle.std.specs.Prelude.{nat_le, drop, nat_lt}
 use Rattle.sctp_model.specs.numbers.Limits.{REQUEST_LIMIT}
@@ -11,33 +11,36 @@ use Rattle.sctp_model.specs.wire.Reconfig.{RECONFIG, OUTGOING_RESET, RECONFIG_RE
 use Rattle.sctp_model.specs.wire.Chunk.{PieceMeaning, ForwardMeaning, ChunkMeaning, Data, IData, Init, InitAck, Sack, Heartbeat, HeartbeatAck, Abort, Shutdown, ShutdownAck, Error, CookieEcho, CookieAck, ShutdownComplete, ForwardTsn, IForwardTsn, Unknown}
 use Rattle.sctp_model.specs.wire.Packet.{Packet}
 use Rattle.sctp_model.specs.messages.Format.{Format}
-use Rattle.sctp_model.specs.sender.Outgoing.{Sending, Sends, Refuses, is_sending, is_resetting, lists, NextNumber, LaterNumber, takes_next, is_later, Request, Outgoing}
+use Rattle.sctp_model.specs.sender.Outgoing.{Sending, Sends, Refuses, is_sending, is_resetting, lists, NextNumber, LaterNumber, takes_next, Request, Outgoing}
 use Rattle.sctp_model.specs.sender.SenderView.{SenderView}
-use Rattle.sctp_model.specs.sender.Resetting.{is_open_number, answered_in, reset_done, reset_refused, kept_asking, number_back, numbered_so, retried_in, retried, response_taken, may_ask, has_stream, ready}
+use Rattle.sctp_model.specs.sender.Resetting.{asked, is_open_number, answered_in, reset_done, reset_refused, kept_asking, is_past_first, number_back, numbered_so, retried_in, retried, response_taken, may_ask, has_stream, ready}
 use Rattle.sctp_model.specs.sender.SackTaken.{sack_taken, shutdown_taken}
 use Rattle.sctp_model.specs.sender.Readers.{point}
 use Rattle.sctp_model.specs.sender.Queueing.{Refusal, refusal}
 use Rattle.sctp_model.specs.sender.Abandoning.{abandon_after, expired, worn, marking}
 use Rattle.sctp_model.specs.sender.Words.{count_up}
 use Rattle.sctp_model.specs.receiver.ReceiverView.{Handed, ReceiverView, IsCumulative}
-use Rattle.sctp_model.specs.receiver.ResetTaken.{reset_answer, answer_in_turn, told_of}
+use Rattle.sctp_model.specs.receiver.ResetTaken.{reset_answer, answer_in_turn}
 use Rattle.sctp_model.specs.receiver.PieceTaken.{PieceAnswer, PieceTaken}
 use Rattle.sctp_model.specs.receiver.ForwardTaken.{ForwardAnswer, ForwardTaken}
 use Rattle.sctp_model.specs.world.Calls.{Call, Asked}
 use Rattle.sctp_model.specs.end.EndView.{Draw, Aborted, TimedOut, Established, ShutdownPending, ShutdownSent, ShutdownReceived, ShutdownAckSent, Phase, Idle, Listening, Calling, Echoing, Open, Over, Alarm, InitAlarm, CookieAlarm, DataAlarm, ShutdownAlarm, AckAlarm, ResetAlarm, EndView, format_of, has_association, unused_timer}
-use Rattle.sctp_model.specs.end.Clock.{closed, with_timer, repeats_of, is_over_at, at_moment, settled, turned, sender_heard, expired_timer, is_home}
+use Rattle.sctp_model.specs.end.EndView.{BeatAlarm, GuardAlarm}
+use Rattle.sctp_model.specs.end.Clock.{closed, with_timer, is_over_at, at_moment, settled, turned, sender_heard, expired_timer, is_home, may_go_on}
 use Rattle.sctp_model.specs.end.Pacing.{Pace}
 use Rattle.sctp_model.specs.end.Closing.{with_due, hears, takes_data, rested}
 use Rattle.sctp_model.specs.end.PeerFaults.{GoesOn, Ends, Replies, Note}
 use Rattle.sctp_model.specs.end.Opening.{AcceptedAck, RefusedAck, EchoedAgain, CookieAcked}
 use Rattle.sctp_model.specs.end.Reconfiguring.{answers_with, request_heard, response_heard, other_heard, asking_on, in_progress, parameter_heard, parameters_heard, asking_now, asking}
-use Rattle.sctp_model.specs.end.Acting.{ReconfigComes, IsUnknown, Acts, PieceEmpty, WrongFormat, ForwardComes, PieceComes, WrongKind, IsBad, IsOld, SackStale, ShutdownStale, SackWrong, ShutdownWrong, HeartbeatCounts, SackCounts, ShutdownCounts, Closes, SaysNothing, Crosses, Again, AckCompletes, CompleteCompleted}
+use Rattle.sctp_model.specs.end.Beating.{beat_heard}
+use Rattle.sctp_model.specs.end.Acting.{ReconfigComes, IsUnknown, Acts, PieceEmpty, WrongFormat, ForwardComes, PieceComes, WrongKind, IsBad, IsOld, SackStale, ShutdownStale, SackWrong, ShutdownWrong, HeartbeatCounts, SackCounts, ShutdownCounts, Closes, SaysNothing, Crosses, Again, AckCompletes, CompleteCompleted, Misnumbered}
 use Rattle.sctp_model.specs.end.Arriving.{Arrives, Elsewhere, NotOurs, Stray, CookieBegins, Heard, Notes, no_notes, urged, packet_ended}
 use Rattle.sctp_model.specs.end.Strays.{Verdict}
 use Rattle.sctp_model.specs.end.Wearing.{missed_below, wearing}
 use Rattle.sctp_model.specs.end.Building.{filled_behind, Slot, Puts, NoMore, NotDue, Put, IsFull, Builds, Sleeps, Waits, Calls, Echoes, EndsFull, Fills, EchoSlot, CookieAckSlot, HeartbeatSlot, ErrorSlot, SackSlot, ForwardSlot, ShutdownSlot, ShutdownAckSlot, once_built, room_behind, AnswerSlot, RequestSlot}
+use Rattle.sctp_model.specs.end.Building.{BeatSlot}
 use Rattle.sctp_model.specs.end.Moments.{after_abandoning, is_data_due, given_up, due_again, rung, ring, rung_all, all_alarms, waited_in, passed, ticked}
-use Rattle.sctp_model.specs.end.UserCalls.{is_established, answer_for, send_answer, send_leaves, NotOpen, is_open, abandoned_at, shut_in, shut, AbortAnswer, Aborts, NoPeer, TooLong, abort_leaves, UserTakes, told_leaves}
+use Rattle.sctp_model.specs.end.UserCalls.{is_established, answer_for, send_answer, send_leaves, NotOpen, is_open, abandoned_at, shut_in, shut, AbortAnswer, Aborts, NoPeer, TooLong, abort_leaves, UserTakes}
 use Rattle.sctp_model.proofs.PacedEnds.{worn_cases}
 use Rattle.sctp_model.proofs.sender.FillLaws.{fill_is_fill}
 use Rattle.sctp_model.proofs.sender.HeardLaws.{heard_cases}
@@ -52,7 +55,7 @@ use Rattle.sctp_safety.proofs.runs.Dates.{Dated}
 use Rattle.sctp_safety.proofs.runs.Direction.{IsSaid, IsSaidBack}
 use Rattle.sctp_safety.proofs.runs.Pair.{IsMet, views_rested, met_rested}
 use Rattle.sctp_safety.proofs.runs.ResetFacts.{IsAskedBy, IsAnsweredBy, AreAsked, AreAnswers, IsKept, IsNoted, noted_done, noted_received, noted_sent}
-use Rattle.sctp_safety.proofs.runs.Asking.{progress_kept, never_bad_number}
+use Rattle.sctp_safety.proofs.runs.Asking.{progress_kept, never_bad_number, done_noted}
 use Rattle.sctp_safety.proofs.runs.Sending.{abandon_resets, expire_resets, follows_resets}
 use Rattle.sctp_safety.proofs.runs.parted.Since.{Since, since_same, since_itself, since_on, since_queued, since_filled, since_abandoned, since_worn, since_given_up}
 use Rattle.sctp_safety.proofs.runs.parted.Onward.{Onward, onward_calm, onward_itself, onward_same, onward_on, piece_onward, skip_onward, take_onward, request_onward}
@@ -66,6 +69,10 @@ pub record Goes (r : ReceiverView) (v u : SenderView) : Type 0 where
   -- one whose reset is asked for was so before, and what its peer has noted stays so
   pub resets : (s : ℕ) → is_resetting (u.resets.sending s) ≡ true → is_resetting (v.resets.sending s) ≡ true
   pub noted : (s : ℕ) → IsNoted v r s → is_resetting (u.resets.sending s) ≡ true → IsNoted u r s
+  -- No fewer numbers are used than were taken. So what is noted then was noted before; and a stream that takes messages took them, or its reset was noted.
+  pub low : r.resets.taken ≤ v.resets.made → r.resets.taken ≤ u.resets.made
+  pub back : r.resets.taken ≤ v.resets.made → (s : ℕ) → IsNoted u r s → IsNoted v r s
+  pub freed : r.resets.taken ≤ v.resets.made → (s : ℕ) → is_sending (u.resets.sending s) ≡ true → (is_sending (v.resets.sending s) ≡ true) ⊎ IsNoted v r s
 
 -- nothing else is known of resets
 goes_since : (r : ReceiverView) (v u : SenderView) → Since v u → u.resets ≡ v.resets → Goes r v u
@@ -74,6 +81,9 @@ goes_since r v u since resets = record {
   shut = λ s h. subst (λ (x : Outgoing). is_sending (x.sending s) ≡ false) resets h;
   resets = λ s h. subst (λ (x : Outgoing). is_resetting (x.sending s) ≡ true) resets h;
   noted = λ s k on. noted_sent v u r s (ap (λ (x : Outgoing). x.pending) resets) (ap (λ (x : Outgoing). x.made) resets) k;
+  low = λ h. let e = ap (λ (x : Outgoing). x.made) resets in omega (arith, h, e);
+  back = λ h s k. noted_sent u v r s (ap (λ (x : Outgoing). x.pending) (sym resets)) (ap (λ (x : Outgoing). x.made) (sym resets)) k;
+  freed = λ h s on. inl (subst (λ (x : Outgoing). is_sending (x.sending s) ≡ true) resets on);
 }
 
 goes_itself : (r : ReceiverView) (v : SenderView) → Goes r v v
@@ -85,6 +95,9 @@ goes_on r v u w a b = record {
   shut = λ s h. a.shut s (b.shut s h);
   resets = λ s h. a.resets s (b.resets s h);
   noted = λ s k on. b.noted s (a.noted s k (b.resets s on)) on;
+  low = λ h. b.low (a.low h);
+  back = λ h s k. a.back h s (b.back (a.low h) s k);
+  freed = λ h s on. elim (b.freed (a.low h) s on) [ inl mid ↦ a.freed h s mid | inr noted ↦ inr (a.back h s noted) ];
 }
 
 heard_goes : (r : ReceiverView) (o : Option Pace) (now : ℕ) (v u : SenderView) → Goes r v u → Goes r v (sender_heard o now v u)
@@ -106,12 +119,16 @@ response_goes : (r : ReceiverView) (v : SenderView) (number code : ℕ) →
     ((q : Request) → v.resets.pending ≡ Some q → (s : ℕ) → lists q.streams s ≡ true → (is_sending (v.resets.sending s) ≡ false) × (is_resetting (v.resets.sending s) ≡ true)) →
     (is_open_number v number ≡ true → is_progress_code code ≡ true → IsKept v r) →
     ((q : Request) → v.resets.pending ≡ Some q → is_open_number v number ≡ true → is_progress_code code ≡ false → is_number_code code ≡ true → ⊥) →
+    ((q : Request) → v.resets.pending ≡ Some q → is_open_number v number ≡ true → is_done_code code ≡ true → (s : ℕ) → lists q.streams s ≡ true → IsNoted v r s) →
     Goes r v (response_taken v number code)
-response_goes r v number code open_shut keeps no_other = record {
+response_goes r v number code open_shut keeps no_other is_done = record {
   since = since;
   shut = λ s. shut (is_open_number v number) s;
   resets = λ s. resets (is_open_number v number) s;
   noted = λ s k. noted s k (is_open_number v number) refl v.resets.pending refl;
+  low = λ h. low h (is_open_number v number) refl v.resets.pending refl;
+  back = λ h s. back s (is_open_number v number) refl v.resets.pending refl;
+  freed = λ h s. freed s (is_open_number v number) refl v.resets.pending refl;
 }
   where
     since : Since v (response_taken v number code)
@@ -134,7 +151,7 @@ response_goes r v number code open_shut keeps no_other = record {
 
     by_request : (o : Option Request) (s : ℕ) → v.resets.pending ≡ o → is_sending ((answered_in v code o).resets.sending s) ≡ false → is_sending (v.resets.sending s) ≡ false
     by_request None s waits h = h
-    by_request (Some q) s waits h = answered q s waits (is_done_code code) (is_progress_code code) (is_number_code code && is_later q.numbering) h
+    by_request (Some q) s waits h = answered q s waits (is_done_code code) (is_progress_code code) (is_number_code code && is_past_first v q) h
 
     shut : (b : Bool) (s : ℕ) → is_sending ((if b then answered_in v code v.resets.pending else v).resets.sending s) ≡ false → is_sending (v.resets.sending s) ≡ false
     shut false s h = h
@@ -156,7 +173,7 @@ response_goes r v number code open_shut keeps no_other = record {
 
     resets_in : (o : Option Request) (s : ℕ) → v.resets.pending ≡ o → is_resetting ((answered_in v code o).resets.sending s) ≡ true → is_resetting (v.resets.sending s) ≡ true
     resets_in None s waits h = h
-    resets_in (Some q) s waits h = resets_by q s waits (is_done_code code) (is_progress_code code) (is_number_code code && is_later q.numbering) h
+    resets_in (Some q) s waits h = resets_by q s waits (is_done_code code) (is_progress_code code) (is_number_code code && is_past_first v q) h
 
     resets : (b : Bool) (s : ℕ) → is_resetting ((if b then answered_in v code v.resets.pending else v).resets.sending s) ≡ true → is_resetting (v.resets.sending s) ≡ true
     resets false s h = h
@@ -175,7 +192,7 @@ response_goes r v number code open_shut keeps no_other = record {
 
     -- one that is noted stays so, as long as its response leaves it
     noted_by : (q : Request) (s : ℕ) (k : IsNoted v r s) → v.resets.pending ≡ Some q → is_open_number v number ≡ true → (b c d : Bool) → is_progress_code code ≡ c →
-        (is_number_code code && is_later q.numbering) ≡ d →
+        (is_number_code code && is_past_first v q) ≡ d →
         is_resetting ((if b then reset_done v q else if c then kept_asking v q else if d then number_back v q else reset_refused v q).resets.sending s) ≡ true →
         IsNoted (if b then reset_done v q else if c then kept_asking v q else if d then number_back v q else reset_refused v q) r s
     noted_by q s k waits is_open true c d progress other on = absurd (set_off q Sends s refl (lists q.streams s) (listed q s k waits) on)
@@ -192,18 +209,83 @@ response_goes r v number code open_shut keeps no_other = record {
         ])
       ]);
     }
-    noted_by q s k waits is_open false false true progress other on = absurd (no_other q waits is_open progress (and_parts (is_number_code code) (is_later q.numbering) other).0)
+    noted_by q s k waits is_open false false true progress other on = absurd (no_other q waits is_open progress (and_parts (is_number_code code) (is_past_first v q) other).0)
     noted_by q s k waits is_open false false false progress other on = absurd (set_off q Refuses s refl (lists q.streams s) (listed q s k waits) on)
 
     noted : (s : ℕ) (k : IsNoted v r s) (b : Bool) → is_open_number v number ≡ b → (o : Option Request) → v.resets.pending ≡ o →
         is_resetting ((if b then answered_in v code o else v).resets.sending s) ≡ true → IsNoted (if b then answered_in v code o else v) r s
     noted s k false is_open o waits on = k
     noted s k true is_open None waits on = k
-    noted s k true is_open (Some q) waits on = noted_by q s k waits is_open (is_done_code code) (is_progress_code code) (is_number_code code && is_later q.numbering) refl refl on
+    noted s k true is_open (Some q) waits on = noted_by q s k waits is_open (is_done_code code) (is_progress_code code) (is_number_code code && is_past_first v q) refl refl on
+
+    -- what is left of the outstanding request, by what is answered
+    left : Request → Bool → Bool → Bool → SenderView
+    left q b c d = if b then reset_done v q else if c then kept_asking v q else if d then number_back v q else reset_refused v q
+
+    low_by : (q : Request) → v.resets.pending ≡ Some q → is_open_number v number ≡ true → (b c d : Bool) → is_progress_code code ≡ c → (is_number_code code && is_past_first v q) ≡ d →
+        r.resets.taken ≤ v.resets.made → r.resets.taken ≤ (left q b c d).resets.made
+    low_by q waits is_open true c d progress other h = h
+    low_by q waits is_open false true d progress other h = h
+    low_by q waits is_open false false true progress other h = absurd (no_other q waits is_open progress (and_parts (is_number_code code) (is_past_first v q) other).0)
+    low_by q waits is_open false false false progress other h = h
+
+    low : r.resets.taken ≤ v.resets.made → (b : Bool) → is_open_number v number ≡ b → (o : Option Request) → v.resets.pending ≡ o → r.resets.taken ≤ (if b then answered_in v code o else v).resets.made
+    low h false is_open o waits = h
+    low h true is_open None waits = h
+    low h true is_open (Some q) waits = low_by q waits is_open (is_done_code code) (is_progress_code code) (is_number_code code && is_past_first v q) refl refl h
+
+    -- what is noted of it was noted
+    back_by : (q : Request) (s : ℕ) → v.resets.pending ≡ Some q → is_open_number v number ≡ true → (b c d : Bool) → is_progress_code code ≡ c → (is_number_code code && is_past_first v q) ≡ d →
+        IsNoted (left q b c d) r s → IsNoted v r s
+    back_by q s waits is_open true c d progress other k = absurd (let w = k.waits in cc w)
+    back_by q s waits is_open false true d progress other k = let same : record q { numbering = NextNumber } ≡ k.request = let w = k.waits in cc w in record {
+      request = q;
+      waits = waits;
+      named = subst (λ (z : Request). lists z.streams s ≡ true) (sym same) k.named;
+      there = subst (λ (z : Request). list_any (nat_le r.streams) z.streams ≡ false) (sym same) k.there;
+      done = elim k.done [
+        | inl done ↦ inl (subst (λ (z : Request). r.resets.waited ≡ Some (noted_done r.initial z)) (sym same) done)
+        | inr never ↦ absurd (let off = subst (λ (z : Request). takes_next z.numbering ≡ false) (sym same) never.3 in cc off)
+      ];
+    }
+    back_by q s waits is_open false false true progress other k = absurd (no_other q waits is_open progress (and_parts (is_number_code code) (is_past_first v q) other).0)
+    back_by q s waits is_open false false false progress other k = absurd (let w = k.waits in cc w)
+
+    back : (s : ℕ) (b : Bool) → is_open_number v number ≡ b → (o : Option Request) → v.resets.pending ≡ o → IsNoted (if b then answered_in v code o else v) r s → IsNoted v r s
+    back s false is_open o waits k = k
+    back s true is_open None waits k = k
+    back s true is_open (Some q) waits k = back_by q s waits is_open (is_done_code code) (is_progress_code code) (is_number_code code && is_past_first v q) refl refl k
+
+    -- a stream that takes messages again is one whose reset was noted
+    set_free : (q : Request) (x : Sending) (s : ℕ) → (lists q.streams s ≡ true → is_sending x ≡ true → IsNoted v r s) → (b : Bool) → lists q.streams s ≡ b → is_sending (if b then x else v.resets.sending s) ≡ true →
+        (is_sending (v.resets.sending s) ≡ true) ⊎ IsNoted v r s
+    set_free q x s free true listed on = inr (free listed on)
+    set_free q x s free false listed on = inl on
+
+    freed_by : (q : Request) (s : ℕ) → v.resets.pending ≡ Some q → is_open_number v number ≡ true → (b c d : Bool) → is_done_code code ≡ b → is_sending ((left q b c d).resets.sending s) ≡ true →
+        (is_sending (v.resets.sending s) ≡ true) ⊎ IsNoted v r s
+    freed_by q s waits is_open true c d done on = set_free q Sends s (λ listed free. is_done q waits is_open done s listed) (lists q.streams s) refl on
+    freed_by q s waits is_open false true d done on = inl on
+    freed_by q s waits is_open false false true done on = inl on
+    freed_by q s waits is_open false false false done on = set_free q Refuses s (λ listed free. absurd (cc free)) (lists q.streams s) refl on
+
+    freed : (s : ℕ) (b : Bool) → is_open_number v number ≡ b → (o : Option Request) → v.resets.pending ≡ o → is_sending ((if b then answered_in v code o else v).resets.sending s) ≡ true →
+        (is_sending (v.resets.sending s) ≡ true) ⊎ IsNoted v r s
+    freed s false is_open o waits on = inl on
+    freed s true is_open None waits on = inl on
+    freed s true is_open (Some q) waits on = freed_by q s waits is_open (is_done_code code) (is_progress_code code) (is_number_code code && is_past_first v q) refl on
 
 -- a request that is retransmitted
 retried_goes : (r : ReceiverView) (v : SenderView) → Goes r v (retried v)
-retried_goes r v = record { since = since; shut = λ s. shut s v.resets.pending; resets = λ s. resets s v.resets.pending; noted = λ s k on. noted s k v.resets.pending refl }
+retried_goes r v = record {
+  since = since;
+  shut = λ s. shut s v.resets.pending;
+  resets = λ s. resets s v.resets.pending;
+  noted = λ s k on. noted s k v.resets.pending refl;
+  low = λ h. low h v.resets.pending;
+  back = λ h s. back h s v.resets.pending refl;
+  freed = λ h s on. inl (freed s v.resets.pending on);
+}
   where
     since : Since v (retried v)
     since =
@@ -242,6 +324,39 @@ retried_goes r v = record { since = since; shut = λ s. shut s v.resets.pending;
             | inr never ↦ absurd (let off = subst (λ (z : Request). takes_next z.numbering ≡ false) same never.3 in cc (off, next))
           ]);
         }
+
+    low_by : (q : Request) (b : Bool) → r.resets.taken ≤ v.resets.made → r.resets.taken ≤ (if b then numbered_so v (suc v.resets.made) LaterNumber q else v).resets.made
+    low_by q true h = omega (arith, h)
+    low_by q false h = h
+
+    low : r.resets.taken ≤ v.resets.made → (o : Option Request) → r.resets.taken ≤ (retried_in v o).resets.made
+    low h None = h
+    low h (Some q) = low_by q (takes_next q.numbering && nat_lt v.resets.made REQUEST_LIMIT) h
+
+    back_by : r.resets.taken ≤ v.resets.made → (q : Request) (s : ℕ) → v.resets.pending ≡ Some q → (b : Bool) → IsNoted (if b then numbered_so v (suc v.resets.made) LaterNumber q else v) r s → IsNoted v r s
+    back_by h q s waits false k = k
+    back_by h q s waits true k = let same : record q { numbering = LaterNumber } ≡ k.request = let w = k.waits in cc w in record {
+      request = q;
+      waits = waits;
+      named = subst (λ (z : Request). lists z.streams s ≡ true) (sym same) k.named;
+      there = subst (λ (z : Request). list_any (nat_le r.streams) z.streams ≡ false) (sym same) k.there;
+      done = elim k.done [
+        | inl done ↦ inl (subst (λ (z : Request). r.resets.waited ≡ Some (noted_done r.initial z)) (sym same) done)
+        | inr never ↦ absurd (let e = never.2 in omega (arith, h, e))
+      ];
+    }
+
+    back : r.resets.taken ≤ v.resets.made → (s : ℕ) (o : Option Request) → v.resets.pending ≡ o → IsNoted (retried_in v o) r s → IsNoted v r s
+    back h s None waits k = k
+    back h s (Some q) waits k = back_by h q s waits (takes_next q.numbering && nat_lt v.resets.made REQUEST_LIMIT) k
+
+    freed_by : (q : Request) (s : ℕ) (b : Bool) → is_sending ((if b then numbered_so v (suc v.resets.made) LaterNumber q else v).resets.sending s) ≡ true → is_sending (v.resets.sending s) ≡ true
+    freed_by q s true h = h
+    freed_by q s false h = h
+
+    freed : (s : ℕ) (o : Option Request) → is_sending ((retried_in v o).resets.sending s) ≡ true → is_sending (v.resets.sending s) ≡ true
+    freed s None h = h
+    freed s (Some q) h = freed_by q s (takes_next q.numbering && nat_lt v.resets.made REQUEST_LIMIT) h
 
     noted : (s : ℕ) → IsNoted v r s → (o : Option Request) → v.resets.pending ≡ o → IsNoted (retried_in v o) r s
     noted s k None waits = k
@@ -337,9 +452,9 @@ module _ (p : EndView) (u v : Asked) (out back : List Dated) (many : ℕ) where
   asking_on_same : (e : EndView) → LaterEnd p e (asking_on e)
   asking_on_same e = go (is_some e.sender.resets.pending)
     where
-      go : (b : Bool) → LaterEnd p e (if b then e else with_timer ResetAlarm unused_timer (with_due (record e.due { request = false }) e))
+      go : (b : Bool) → LaterEnd p e (if b then e else with_timer ResetAlarm (unused_timer e.configuration.first_wait) (with_due (record e.due { request = false }) e))
       go true = later_itself p e
-      go false = later_same p e (with_timer ResetAlarm unused_timer (with_due (record e.due { request = false }) e)) refl refl
+      go false = later_same p e (with_timer ResetAlarm (unused_timer e.configuration.first_wait) (with_due (record e.due { request = false }) e)) refl refl
 
   by_response : (e : EndView) (x : Typed) → Met e → IsAnsweredBy p.receiver.initial p.receiver x → LaterEnd p e (response_heard e (u32_at x.value) (u32_at (drop 4 x.value)))
   by_response e x m answer =
@@ -350,7 +465,8 @@ module _ (p : EndView) (u v : Asked) (out back : List Dated) (many : ℕ) where
       let first : LaterEnd p e t = later_sender p e t (response_goes p.receiver e.sender number code
       (λ q waits s listed. let o = m.met.going.step.waiting q waits in (o.shut s listed, o.resets s listed))
       (progress_kept (format_of e) e.terms.outbound e.sender u p.receiver out back m.met.going x answer)
-      (never_bad_number (format_of e) e.terms.outbound e.sender u p.receiver out back m.met.going x answer)) refl in
+      (never_bad_number (format_of e) e.terms.outbound e.sender u p.receiver out back m.met.going x answer)
+      (done_noted (format_of e) e.terms.outbound e.sender u p.receiver out back m.met.going x answer)) refl in
       later_on p e t (response_heard e number code) first
       (later_on p t (in_progress b t) (response_heard e number code) (in_progress_same b t) (asking_on_same (in_progress b t)))
 
@@ -377,15 +493,15 @@ module _ (p : EndView) (u v : Asked) (out back : List Dated) (many : ℕ) where
       (let same = (parameter_same c e x).receiver in subst (λ (r : ReceiverView). IsCumulative r c) (sym same.1) (record { reached = cumulative.reached; open_end = cumulative.open_end })))
 
   goes : (e : EndView) (tag : ℕ) (x : ChunkMeaning) (y : Note) (t : EndView) → Comes p many back x → Met e → Acts e tag x (GoesOn y t) → LaterEnd p e t
-  goes e tag (Data d) y t has m (PieceComes k g o r is hears some same taken) = later_receiver p e t refl (by_data e d o r m has taken)
-  goes e tag (IData d) y t has m (PieceComes k g o r is hears some same taken) = later_receiver p e t refl (by_i_data e d o r m has taken)
+  goes e tag (Data d) y t has m (PieceComes k g o r is hears some same taken right) = later_receiver p e t refl (by_data e d o r m has taken)
+  goes e tag (IData d) y t has m (PieceComes k g o r is hears some same taken right) = later_receiver p e t refl (by_i_data e d o r m has taken)
   goes e tag (Init i) y t has m h = absurd (cc)
   goes e tag (InitAck i) y t has m (AcceptedAck d cookie is tagged value fault) = absurd (not_calling e.phase d is m.met.phase)
   goes e tag (Sack s) y t has m (SackStale hears fault) = later_same p e t refl refl
   goes e tag (Sack s) y t has m (SackCounts hears none) =
       later_sender p e t (heard_goes p.receiver e.pace e.moment e.sender (sack_taken e.sender s) (goes_since p.receiver e.sender (sack_taken e.sender s) (since_same e.sender (sack_taken e.sender s) refl refl refl) refl)) refl
   goes e tag (Heartbeat i) y t has m (HeartbeatCounts hears) = later_same p e t refl refl
-  goes e tag (HeartbeatAck i) y t has m h = let q : t ≡ e = cc in subst (LaterEnd p e) (sym q) (later_itself p e)
+  goes e tag (HeartbeatAck i) y t has m h = let q : t ≡ beat_heard e i = cc in subst (LaterEnd p e) (sym q) (later_same p e (beat_heard e i) refl refl)
   goes e tag (Abort b xs) y t has m h = absurd (cc)
   goes e tag (Shutdown n) y t has m (ShutdownStale k g is hears fault) = later_same p e t refl refl
   goes e tag (Shutdown n) y t has m (ShutdownCounts k g is hears none) =
@@ -431,8 +547,10 @@ module _ (p : EndView) (u v : Asked) (out back : List Dated) (many : ℕ) where
   replies : (e : EndView) (tag : ℕ) (x : ChunkMeaning) (t : EndView) (r : Packet) → Acts e tag x (Replies t r) → LaterEnd p e t
   replies e tag (Data d) t r (PieceEmpty _ _ _ _ _) = later_same p e t refl refl
   replies e tag (Data d) t r (WrongFormat _ _ _ _ _ _) = later_same p e t refl refl
+  replies e tag (Data d) t r (Misnumbered _ _ _ _ _ _ _ _ _) = later_same p e t refl refl
   replies e tag (IData d) t r (PieceEmpty _ _ _ _ _) = later_same p e t refl refl
   replies e tag (IData d) t r (WrongFormat _ _ _ _ _ _) = later_same p e t refl refl
+  replies e tag (IData d) t r (Misnumbered _ _ _ _ _ _ _ _ _) = later_same p e t refl refl
   replies e tag (Init i) t r h = absurd (cc)
   replies e tag (InitAck i) t r (RefusedAck _ _ _ _ _) = later_same p e t refl refl
   replies e tag (Sack s) t r (SackWrong _ _ _ _ _) = later_same p e t refl refl
@@ -492,10 +610,11 @@ later_built : (p : EndView) (s : Slot) (e : EndView) → LaterEnd p e (once_buil
 later_built p EchoSlot e = later_same p e _ refl refl
 later_built p CookieAckSlot e = later_same p e _ refl refl
 later_built p HeartbeatSlot e = later_same p e _ refl refl
+later_built p BeatSlot e = later_same p e _ refl refl
 later_built p ErrorSlot e = later_same p e _ refl refl
-later_built p SackSlot e = later_receiver p e _ refl (onward_calm p.sender e.receiver _ (λ j h. h) refl (λ s. refl) (λ s n is. is) (λ s k. noted_received p.sender e.receiver _ s refl refl refl refl refl k))
+later_built p SackSlot e = later_receiver p e _ refl (onward_calm p.sender e.receiver _ (λ j h. h) refl (λ s. refl) refl (λ s k. noted_received p.sender e.receiver _ s refl refl refl refl refl k) (λ s k. noted_received p.sender _ e.receiver s refl refl refl refl refl k))
 later_built p ForwardSlot e = later_same p e _ refl refl
-later_built p AnswerSlot e = later_receiver p e _ refl (onward_calm p.sender e.receiver _ (λ j h. h) refl (λ s. refl) (λ s n is. is) (λ s k. noted_received p.sender e.receiver _ s refl refl refl refl refl k))
+later_built p AnswerSlot e = later_receiver p e _ refl (onward_calm p.sender e.receiver _ (λ j h. h) refl (λ s. refl) refl (λ s k. noted_received p.sender e.receiver _ s refl refl refl refl refl k) (λ s k. noted_received p.sender _ e.receiver s refl refl refl refl refl k))
 later_built p RequestSlot e = later_same p e _ refl refl
 later_built p ShutdownSlot e = later_same p e _ refl refl
 later_built p ShutdownAckSlot e = later_same p e _ refl refl
@@ -506,8 +625,12 @@ later_puts p ss e xs zs full t (NotDue _ more _ _ _ _ _ off rest) = later_puts p
 later_puts p ss e xs zs full t (Put s more _ x _ _ _ _ due wants room rest) = later_on p e (once_built s e) t (later_built p s e) (later_puts p more (once_built s e) (xs ++ x ∷ []) zs full t rest)
 later_puts p ss e xs zs full t (IsFull _ _ _ _ _ due wants room) = later_itself p e
 
-later_asking : (p e : EndView) → LaterEnd p e (asking e)
-later_asking p e = go (e.terms.reset && (is_home ResetAlarm e.phase && may_ask e.sender)) refl
+-- a new request isn't noted
+abbrev pub IsUnnoted : (p e : EndView) → Type 0
+IsUnnoted p e = may_ask e.sender ≡ true → (s : ℕ) → IsNoted (asked e.sender) p.receiver s → ⊥
+
+later_asking : (p e : EndView) → IsUnnoted p e → LaterEnd p e (asking e)
+later_asking p e new = go (e.terms.reset && (is_home ResetAlarm e.phase && may_ask e.sender)) refl
   where
     -- none is outstanding then
     none_waits : may_ask e.sender ≡ true → (s : ℕ) → IsNoted e.sender p.receiver s → ⊥
@@ -520,21 +643,21 @@ later_asking p e = go (e.terms.reset && (is_home ResetAlarm e.phase && may_ask e
     go true on =
         let may = (and_parts (is_home ResetAlarm e.phase) (may_ask e.sender) (and_parts e.terms.reset (is_home ResetAlarm e.phase && may_ask e.sender) on).1).1 in
         later_sender p e (asking_now true e)
-        (record { since = since_same e.sender _ refl refl refl; shut = λ s h. h; resets = λ s h. h; noted = λ s k on_it. absurd (none_waits may s k) }) refl
+        (record { since = since_same e.sender _ refl refl refl; shut = λ s h. h; resets = λ s h. h; noted = λ s k on_it. absurd (none_waits may s k); low = λ h. omega (arith, h); back = λ h s k. absurd (new may s k); freed = λ h s on_it. inl on_it }) refl
     go false off = later_itself p e
 
-pub builds_later : (p e : EndView) (zs : List ChunkMeaning) (t : EndView) → Builds e zs t → LaterEnd p e t
-builds_later p e zs t (Sleeps _) = later_itself p e
-builds_later p e zs t (Waits _ _ _) = later_itself p e
-builds_later p e zs t (Calls _ _ _) = later_same p e t refl refl
-builds_later p e zs t (Echoes _ _ _ full _ is puts) = later_puts p _ e [] zs full t puts
-builds_later p e zs t (EndsFull _ _ _ _ is puts) = later_on p e (asking e) t (later_asking p e) (later_puts p _ (asking e) [] zs true t puts)
-builds_later p e zs t (Fills _ _ ys x is puts) =
+pub builds_later : (p e : EndView) (zs : List ChunkMeaning) (t : EndView) → IsUnnoted p e → Builds e zs t → LaterEnd p e t
+builds_later p e zs t new (Sleeps _) = later_itself p e
+builds_later p e zs t new (Waits _ _ _) = later_itself p e
+builds_later p e zs t new (Calls _ _ _) = later_same p e t refl refl
+builds_later p e zs t new (Echoes _ _ _ full _ is puts) = later_puts p _ e [] zs full t puts
+builds_later p e zs t new (EndsFull _ _ _ _ is puts) = later_on p e (asking e) t (later_asking p e new) (later_puts p _ (asking e) [] zs true t puts)
+builds_later p e zs t new (Fills _ _ ys x is puts) =
     let follows = (fill_is_fill (format_of x) (room_behind x ys) x.sender).follows in
     let fills : Goes p.receiver x.sender (filled_behind x ys).view =
     goes_since p.receiver x.sender (filled_behind x ys).view (since_filled (format_of x) x.sender (room_behind x ys) (filled_behind x ys).wishes (filled_behind x ys).view follows)
     (follows_resets (format_of x) x.sender (room_behind x ys) (filled_behind x ys).wishes (filled_behind x ys).view follows).last in
-    later_on p e x t (later_on p e (asking e) x (later_asking p e) (later_puts p _ (asking e) [] ys false x puts)) (later_sender p x t fills refl)
+    later_on p e x t (later_on p e (asking e) x (later_asking p e new) (later_puts p _ (asking e) [] ys false x puts)) (later_sender p x t fills refl)
 
 -- ---- time
 
@@ -545,13 +668,15 @@ later_again p DataAlarm e = later_sender p e _ (goes_since p.receiver e.sender (
 later_again p ShutdownAlarm e = later_same p e _ refl refl
 later_again p AckAlarm e = later_same p e _ refl refl
 later_again p ResetAlarm e = later_sender p e _ (retried_goes p.receiver e.sender) refl
+later_again p BeatAlarm e = later_same p e _ refl refl
+later_again p GuardAlarm e = later_same p e _ refl refl
 
 later_rung : (p : EndView) (b : Bool) (a : Alarm) (e : EndView) → LaterEnd p e (rung b a e)
 later_rung p false a e = later_itself p e
-later_rung p true a e = go (nat_lt (e.timers a).repeats (repeats_of a))
+later_rung p true a e = go (may_go_on a e)
   where
-    go : (c : Bool) → LaterEnd p e (if c then due_again a (with_timer a (expired_timer (e.timers a)) e) else closed TimedOut e)
-    go true = let x = with_timer a (expired_timer (e.timers a)) e in later_on p e x (due_again a x) (later_same p e x refl refl) (later_again p a x)
+    go : (c : Bool) → LaterEnd p e (if c then due_again a (with_timer a (expired_timer e.configuration.longest_wait (e.timers a)) e) else closed TimedOut e)
+    go true = let x = with_timer a (expired_timer e.configuration.longest_wait (e.timers a)) e in later_on p e x (due_again a x) (later_same p e x refl refl) (later_again p a x)
     go false = later_same p e _ refl refl
 
 later_rung_all : (p : EndView) (alarms : List Alarm) (e : EndView) → LaterEnd p e (rung_all alarms e)
@@ -584,13 +709,15 @@ again_receiver DataAlarm e = refl
 again_receiver ShutdownAlarm e = refl
 again_receiver AckAlarm e = refl
 again_receiver ResetAlarm e = refl
+again_receiver BeatAlarm e = refl
+again_receiver GuardAlarm e = refl
 
 rung_receiver : (b : Bool) (a : Alarm) (e : EndView) → (rung b a e).receiver ≡ e.receiver
 rung_receiver false a e = refl
-rung_receiver true a e = go (nat_lt (e.timers a).repeats (repeats_of a))
+rung_receiver true a e = go (may_go_on a e)
   where
-    go : (c : Bool) → (if c then due_again a (with_timer a (expired_timer (e.timers a)) e) else closed TimedOut e).receiver ≡ e.receiver
-    go true = again_receiver a (with_timer a (expired_timer (e.timers a)) e)
+    go : (c : Bool) → (if c then due_again a (with_timer a (expired_timer e.configuration.longest_wait (e.timers a)) e) else closed TimedOut e).receiver ≡ e.receiver
+    go true = again_receiver a (with_timer a (expired_timer e.configuration.longest_wait (e.timers a)) e)
     go false = refl
 
 rung_all_receiver : (alarms : List Alarm) (e : EndView) → (rung_all alarms e).receiver ≡ e.receiver
@@ -636,14 +763,6 @@ abandoned_later p e n = go (is_open e.phase)
     go : (b : Bool) → LaterEnd p e (if b then after_abandoning e (abandon_after e.sender n) else record e { sender = abandon_after e.sender n })
     go true = later_abandoning p e (abandon_after e.sender n) goes
     go false = later_sender p e (record e { sender = abandon_after e.sender n }) goes refl
-
-pub told_later : (p e : EndView) (o : Option ℕ) → LaterEnd p e (told_leaves o e)
-told_later p e None = later_itself p e
-told_later p e (Some s) = later_receiver p e _ refl (onward_calm p.sender e.receiver (told_of e.receiver s) (λ j h. h) refl (λ k. refl) (λ k n is. told k n (k == s) is) (λ k h. noted_received p.sender e.receiver (told_of e.receiver s) k refl refl refl refl refl h))
-  where
-    told : (k n : ℕ) (b : Bool) → (if b then None else e.receiver.resets.told k) ≡ Some n → e.receiver.resets.told k ≡ Some n
-    told k n true here = absurd (cc)
-    told k n false here = here
 
 pub shut_later : (p e : EndView) → LaterEnd p e (shut e)
 shut_later p e = go e.phase

@@ -1,19 +1,19 @@
 -- What moves deliver: an ordered message has a number that was waited for or lay ahead; of an unordered one some fragment was recorded on the way.
-use Rattle.std.proofs.Common.{◌≡◌, ℕ, suc, ◌<◌, ◌≤◌, ◌⊎◌, ◌==◌, Bool, true, false, List, [], ◌∷◌, ◌++◌, Some, inl, inr, refl, sym, subst, ap, ◌∙◌, arith, append-nil, if◌then◌else◌}
+use Rattle.std.proofs.Common.{◌≡◌, ℕ, suc, ◌≤◌, ◌⊎◌, ◌==◌, Bool, true, false, List, [], ◌∷◌, ◌++◌, Some, inl, inr, refl, sym, subst, ap, ◌∙◌, arith, append-nil, if◌then◌else◌}
 use Rattle.std.proofs.lemmas.Bool.Decides.{nat_tests}
 use Rattle.std.proofs.lemmas.List.{append_assoc}
-use Rattle.sctp_model.specs.numbers.Lists.{Has, IsWithin, at}
-use Rattle.sctp_model.specs.messages.Format.{Format, Ordered, Unordered, Lane, ordered_lane}
-use Rattle.sctp_model.specs.messages.Plan.{Entry, Part, End, Plan, entry_at}
+use Rattle.sctp_model.specs.numbers.Lists.{Has, at}
+use Rattle.sctp_model.specs.messages.Format.{Format, Ordered, Lane}
+use Rattle.sctp_model.specs.messages.Plan.{Part, Plan, entry_at}
 use Rattle.sctp_model.specs.messages.Pieces.{Piece}
 use Rattle.sctp_model.specs.messages.Whole.{IsWhole}
 use Rattle.sctp_model.specs.receiver.ReceiverView.{Handed, ReceiverView, handed}
-use Rattle.sctp_model.specs.receiver.Receiving.{message_of, IsWholeNumber, without_below, without_message, recorded, handed_unordered}
+use Rattle.sctp_model.specs.receiver.Receiving.{message_of, recorded, handed_unordered}
 use Rattle.sctp_model.specs.receiver.Laws.{IsIdle}
 use Rattle.sctp_model.specs.world.Safe.{WasHanded}
 use Rattle.sctp_safety.specs.Way.{Way, Move, Send, Name, Time_passes, Number, Continue, Withdraw, Abandon, Mark, Change_sending, Sack_comes, Shutdown_comes, Put_piece, Put_forward, Put_sack, Put_shutdown, Keep_piece, Drop_piece, Forward_comes, Hand_over, Hand_unordered, Pass_over, Drop_below_next, Let_go, Take, Note_duplicates, Step, Run, with_receiver, past}
 use Rattle.sctp_safety.specs.Exact.{Leads}
-use Rattle.sctp_safety.proofs.lists.Basics.{at_cases, Has-cases, Has-push, Has-filtered}
+use Rattle.sctp_safety.proofs.lists.Basics.{at_cases, Has-push, Has-filtered}
 use Rattle.sctp_safety.proofs.moves.Facts.{Good}
 use Rattle.sctp_safety.proofs.moves.Always.{kept_by-Step}
 use Rattle.sctp_safety.proofs.moves.Settled.{ordered_numbered}

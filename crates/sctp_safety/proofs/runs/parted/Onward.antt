@@ -1,6 +1,6 @@
 -- What a call does to a receiver, beside the sender across: nothing is forgotten, and each message that is delivered was waited for, or a fragment of it
 -- wasn't reached before.
-use Rattle.std.proofs.Common.{◌≡◌, ℕ, zero, suc, ◌≤◌, ◌⊎◌, Bool, true, false, List, [], ◌++◌, length, length-append, Option, Some, None, inl, inr, refl, sym, subst, ap, ◌∙◌, arith, append-nil, if◌then◌else◌, not}
+use Rattle.std.proofs.Common.{◌≡◌, ℕ, zero, suc, ◌≤◌, ◌⊎◌, Bool, true, false, List, [], ◌++◌, length, length-append, Option, Some, None, is_some, inl, inr, refl, sym, subst, ap, ◌∙◌, arith, append-nil, if◌then◌else◌, not}
 use Rattle.std.proofs.lemmas.List.{append_assoc}
 use Rattle.sctp_model.specs.numbers.Lists.{Has}
 use Rattle.sctp_model.specs.wire.Typed.{Typed}
@@ -35,7 +35,7 @@ use Rattle.sctp_safety.proofs.runs.Direction.{way_of, IsPieceIn, IsForwardIn, Is
 use Rattle.sctp_safety.proofs.runs.ResetFacts.{IsAskedBy}
 use Rattle.sctp_safety.proofs.runs.ReachesLast.{reaches_last}
 use Rattle.sctp_safety.proofs.runs.ResetFacts.{IsNoted, noted_received}
-use Rattle.sctp_safety.proofs.runs.Renumbering.{turn, named, not_noted, noted_performed, stays_noted}
+use Rattle.sctp_safety.proofs.runs.Renumbering.{turn, named, not_noted, noted_performed, stays_noted, noted_back}
 use Rattle.sctp_safety.proofs.runs.parted.OnWay.{OnWay, IsHandedAnew, on_leads}
 use Rattle.sctp_safety.proofs.runs.parted.Recorded.{piece_records, forward_records}
 use Rattle.std.proofs.lemmas.Bool.{and_parts}
@@ -59,21 +59,26 @@ pub record Onward (a : SenderView) (r t : ReceiverView) : Type 0 where
   pub anew : (l : Lane) (k : ℕ) → WasHanded a.plan t l k → WasHanded a.plan r l k ⊎ IsHandedLater a.plan r l k
   pub told : (s n : ℕ) → t.resets.told s ≡ Some n → (r.resets.told s ≡ Some n) ⊎ IsPerformed a r t s n
   pub noted : (s : ℕ) → IsNoted a r s → IsNoted a t s
+  -- what is to be reported stays so; and of what is noted anew it is to be reported
+  pub kept : (s : ℕ) → is_some (r.resets.told s) ≡ true → is_some (t.resets.told s) ≡ true
+  pub back : (s : ℕ) → IsNoted a t s → IsNoted a r s ⊎ (Asks a s × (is_some (t.resets.told s) ≡ true))
 
 -- nothing is delivered, and no request performed
 pub onward_calm : (a : SenderView) (r t : ReceiverView) → ((j : ℕ) → Reaches r j → Reaches t j) → t.next ≡ r.next → ((s : ℕ) → handed t s ≡ handed r s) →
-    ((s n : ℕ) → t.resets.told s ≡ Some n → r.resets.told s ≡ Some n) → ((s : ℕ) → IsNoted a r s → IsNoted a t s) → Onward a r t
-onward_calm a r t reached next same told noted = record {
+    t.resets.told ≡ r.resets.told → ((s : ℕ) → IsNoted a r s → IsNoted a t s) → ((s : ℕ) → IsNoted a t s → IsNoted a r s) → Onward a r t
+onward_calm a r t reached next same told noted back = record {
   reached = reached;
   next = λ s. (let e = ap (λ (g : ℕ → ℕ). g s) next in omega (arith, e));
   more = λ s. ([], same s ∙ sym (append-nil (handed r s)));
   anew = λ l k (h, has, lane, first). inl (h, subst (λ (hs : List Handed). Has hs h) (same l.stream) has, lane, first);
-  told = λ s n is. inl (told s n is);
+  told = λ s n is. inl (subst (λ (g : ℕ → Option ℕ). g s ≡ Some n) told is);
   noted = noted;
+  kept = λ s on. subst (λ (g : ℕ → Option ℕ). is_some (g s) ≡ true) (sym told) on;
+  back = λ s k. inl (back s k);
 }
 
 pub onward_itself : (a : SenderView) (r : ReceiverView) → Onward a r r
-onward_itself a r = onward_calm a r r (λ j h. h) refl (λ s. refl) (λ s n is. is) (λ s k. k)
+onward_itself a r = onward_calm a r r (λ j h. h) refl (λ s. refl) refl (λ s k. k) (λ s k. k)
 
 pub onward_same : (a : SenderView) (r t : ReceiverView) → t ≡ r → Onward a r t
 onward_same a r t is = subst (Onward a r) (sym is) (onward_itself a r)
@@ -89,6 +94,8 @@ onward_on a r t u o b = record {
   anew = λ l k h. by_last l k (b.anew l k h);
   told = λ s n is. told s n (b.told s n is);
   noted = λ s k. b.noted s (o.noted s k);
+  kept = λ s on. b.kept s (o.kept s on);
+  back = λ s k. elim (b.back s k) [ inl mid ↦ elim (o.back s mid) [ inl first ↦ inl first | inr new ↦ inr (new.0, b.kept s new.1) ] | inr new ↦ inr new ];
 }
   where
     later : (l : Lane) (k : ℕ) → IsHandedLater a.plan t l k → IsHandedLater a.plan r l k
@@ -155,6 +162,8 @@ module _ (f : Format) (n : ℕ) (a : SenderView) (u : Asked) (r : ReceiverView) 
     anew = λ l k h. elim (o.anew l k h) [ inl before ↦ inl before | inr new ↦ inr (later l k new) ];
     told = λ s k is. inl (subst (λ (x : Incoming). x.told s ≡ Some k) resets is);
     noted = λ s k. noted_received a r t s m.initial m.streams (ap (λ (x : Incoming). x.waited) resets) (ap (λ (x : Incoming). x.result) resets) (ap (λ (x : Incoming). x.taken) resets) k;
+    kept = λ s on. subst (λ (x : Incoming). is_some (x.told s) ≡ true) (sym resets) on;
+    back = λ s k. inl (noted_received a t r s (sym m.initial) (sym m.streams) (ap (λ (x : Incoming). x.waited) (sym resets)) (ap (λ (x : Incoming). x.result) (sym resets)) (ap (λ (x : Incoming). x.taken) (sym resets)) k);
   }
     where
       o : OnWay here (with_receiver here t)
@@ -209,6 +218,20 @@ module _ (f : Format) (n : ℕ) (a : SenderView) (u : Asked) (r : ReceiverView) 
     told_then true BadNumber s k is = inl is
     told_then true InProgress s k is = inl is
 
+    -- what was to be reported is
+    kept_then : (b : Bool) (o : ResetResult) (s : ℕ) → is_some (r.resets.told s) ≡ true →
+        is_some ((if b then with_answer (renumbered_by r (names r m.streams) (names_anew r m) o) m o else r).resets.told s) ≡ true
+    kept_then false o s on = on
+    kept_then true Performed s on = by_name (names_anew r m s)
+      where
+        by_name : (x : Bool) → is_some (if x then Some (length (handed r s)) else r.resets.told s) ≡ true
+        by_name true = refl
+        by_name false = on
+    kept_then true Denied s on = on
+    kept_then true WrongStream s on = on
+    kept_then true BadNumber s on = on
+    kept_then true InProgress s on = on
+
     pub request_onward : (xs : List Typed) → Onward a r (with_answers (reset_taken r c m) xs)
     request_onward xs = record {
       reached = λ j h. subst (λ (x : ReceiverView). Reaches x j) (sym is.1) h;
@@ -217,6 +240,11 @@ module _ (f : Format) (n : ℕ) (a : SenderView) (u : Asked) (r : ReceiverView) 
       anew = λ l k h. inl (subst (λ (x : ReceiverView). WasHanded a.plan x l k) is.1 h);
       told = λ s k there. by s k (told_then (is_in_turn r m.number) (reset_answer r c m) s k there);
       noted = stays_noted f n a u r out back d c cumulative m ask xs;
+      kept = λ s on. kept_then (is_in_turn r m.number) (reset_answer r c m) s on;
+      back = λ s k. elim (noted_back f n a u r out back d c cumulative m ask xs s k) [
+        | inl before ↦ inl before
+        | inr told ↦ inr (record { request = k.request; waits = k.waits; named = k.named }, told)
+      ];
     }
       where
         is : IsResetIn r (with_answers (reset_taken r c m) xs)

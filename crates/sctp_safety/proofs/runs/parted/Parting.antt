@@ -1,23 +1,25 @@
 -- Once a request for a stream waits, what is delivered anew on that stream was accepted later.
-use Rattle.std.proofs.Common.{◌≡◌, ℕ, zero, suc, ◌<◌, ◌≤◌, ◌⊎◌, true, false, List, [], ◌∷◌, ◌++◌, length, length-append, Option, Some, None, inl, inr, refl, sym, subst, ap, ◌∙◌, arith}
+use Rattle.std.proofs.Common.{◌≡◌, ℕ, zero, suc, ◌<◌, ◌≤◌, ◌⊎◌, true, false, List, [], ◌∷◌, ◌++◌, length, length-append, Option, Some, None, is_some, inl, inr, refl, sym, subst, ap, ◌∙◌, arith, nat_le, ◌==◌}
+use Rattle.std.specs.List.{list_any}
+use Rattle.std.proofs.lemmas.Bool.{or_parts, or_cases}
+use Rattle.std.proofs.lemmas.Bool.Decides.{nat_tests}
 use Rattle.sctp_model.specs.numbers.Lists.{Has, AreInOrder}
 use Rattle.sctp_model.specs.messages.Format.{Format, Ordered, Lane, ordered_lane}
 use Rattle.sctp_model.specs.messages.Plan.{Message, bytes_of, Entry, Part, End, Plan, entry_at, message_at, IsClosed, IsOf}
-use Rattle.sctp_model.specs.sender.Outgoing.{Request, lists, Sending, Sends, Resets, Refuses, is_sending, is_resetting}
+use Rattle.sctp_model.specs.sender.Outgoing.{Sending, Sends, Resets, Refuses, is_sending, is_resetting, lists}
 use Rattle.sctp_model.specs.sender.SenderView.{Queued, SenderView}
 use Rattle.sctp_model.specs.sender.Entries.{entry_lane}
 use Rattle.sctp_model.specs.receiver.ReceiverView.{Handed, ReceiverView, handed, Reaches}
 use Rattle.sctp_model.specs.world.Calls.{Asked, call_at}
 use Rattle.sctp_model.specs.world.Safe.{WasHanded}
 use Rattle.sctp_model.specs.end.Configured.{IsConfiguration}
-use Rattle.sctp_model.specs.world.World.{Side, A, B, other, World, end_of, Setup, configuration_of, start}
-use Rattle.sctp_model.specs.world.Events.{Event, Reset, Outcome, Done}
+use Rattle.sctp_model.specs.world.World.{Side, other, World, end_of, Setup, configuration_of, start}
+use Rattle.sctp_model.specs.world.Events.{Event, Reset, WasReset, Outcome, Done, ResetThere}
 use Rattle.sctp_model.specs.world.Steps.{Step, PassesThrough, last_of}
 use Rattle.sctp_model.specs.world.Premises.{drawn_in, asked_at}
 use Rattle.sctp_safety.specs.Agreement.{IsOpening}
-use Rattle.sctp_safety.specs.Way.{Way}
 use Rattle.sctp_safety.specs.Parted.{IsLater, HandsLaterOnes, Asks, RequestsPartMessages}
-use Rattle.sctp_safety.proofs.lists.Basics.{Has-left, Has-right, lane_is, item_at-within, item_at-above, slice_get-within}
+use Rattle.sctp_safety.proofs.lists.Basics.{Has-right, lane_is, item_at-within, item_at-above, slice_get-within}
 use Rattle.sctp_safety.proofs.machine.EndsAgree.{fine_by, sound_start, opening_of}
 use Rattle.sctp_safety.proofs.machine.Ground.{IsFine}
 use Rattle.sctp_safety.proofs.moves.Facts.{Good, IsHonest}
@@ -26,17 +28,17 @@ use Rattle.sctp_safety.proofs.moves.UsualLemmas.{good_usual}
 use Rattle.sctp_safety.proofs.receiving.CountReads.{all_counted}
 use Rattle.sctp_safety.proofs.runs.Courses.{passing_goes_on}
 use Rattle.sctp_safety.proofs.runs.Dates.{Dated}
-use Rattle.sctp_safety.proofs.runs.DatedBags.{Dates, dated_bag, AreKept}
+use Rattle.sctp_safety.proofs.runs.DatedBags.{Dates, AreKept}
 use Rattle.sctp_safety.proofs.runs.Dating.{dates_of, AllKept, kept_in_time}
 use Rattle.sctp_safety.proofs.runs.Direction.{Direction, way_of, entry_there}
 use Rattle.sctp_safety.proofs.runs.MetSteps.{met_step}
-use Rattle.sctp_safety.proofs.runs.MetWorld.{IsMetWorld, MetAt, at_side}
+use Rattle.sctp_safety.proofs.runs.MetWorld.{IsMetWorld, at_side}
 use Rattle.sctp_safety.proofs.runs.ResetFacts.{IsOpen, IsNoted}
 use Rattle.sctp_safety.proofs.runs.Safety.{IsKept, IsSteady, set_up, steady_step, kept_start}
 use Rattle.sctp_safety.proofs.runs.ApartWorld.{IsApartWorld}
-use Rattle.sctp_safety.proofs.runs.parted.Beginning.{IsUnreset, step_unreset}
+use Rattle.sctp_safety.proofs.runs.parted.Beginning.{IsUnreset, blank_unreset, step_unreset}
 use Rattle.sctp_safety.proofs.runs.parted.Onward.{onward_itself, IsHandedLater, IsPerformed}
-use Rattle.sctp_safety.proofs.runs.parted.Ongoing.{Ongoing, ongoing_on, by_receiver, entries_last, StepGoes, step_goes}
+use Rattle.sctp_safety.proofs.runs.parted.Ongoing.{Ongoing, IsHeard, ongoing_on, by_receiver, entries_last, StepGoes, step_goes}
 
 -- an element of the first list is before each of the second
 across : {A : Type 0} (R : A → A → Type 0) (xs ys : List A) (x y : A) → AreInOrder R (xs ++ ys) → Has xs x → Has ys y → R x y
@@ -190,6 +192,16 @@ module _ (s : Setup) (drawn : List ℕ) (within : (x : Side) → IsConfiguration
 
 -- ---- one step
 
+-- a stream of a list whose streams are there
+listed_below : (m : ℕ) (xs : List ℕ) {k : ℕ} → list_any (nat_le m) xs ≡ false → lists xs k ≡ true → k < m
+listed_below m [] none on = absurd (cc)
+listed_below m (x ∷ xs) {k} none on =
+    let both = or_parts (nat_le m x) (list_any (nat_le m) xs) none in
+    elim (or_cases (x == k) (lists xs k) on) [
+      | inl own ↦ let low = both.0 in grind (arith, nat_tests, low, own)
+      | inr behind ↦ listed_below m xs both.1 behind
+    ]
+
 -- what a step leaves of the resets of a stream, one way
 pub record StepResets (d : Dates) (x : Side) (n : ℕ) (w : World) (e : Event) (o : Option Outcome) (v : World) : Type 0 where
   -- a stream that takes no message took none before, or is reset now
@@ -204,6 +216,13 @@ pub record StepResets (d : Dates) (x : Side) (n : ℕ) (w : World) (e : Event) (
   pub noted : IsNoted (end_of w x).sender (end_of w (other x)).receiver n → is_resetting ((end_of v x).sender.resets.sending n) ≡ true → IsNoted (end_of v x).sender (end_of v (other x)).receiver n
   pub anew : (c : ℕ) → (end_of v (other x)).receiver.resets.told n ≡ Some c → ((end_of w (other x)).receiver.resets.told n ≡ Some c) ⊎
       (IsNoted (end_of v x).sender (end_of v (other x)).receiver n × (IsNoted (end_of w x).sender (end_of w (other x)).receiver n → ⊥) × (is_resetting ((end_of w x).sender.resets.sending n) ≡ true))
+  -- a stream that takes messages took them, or its reset was noted
+  pub freed : is_sending ((end_of v x).sender.resets.sending n) ≡ true → (is_sending ((end_of w x).sender.resets.sending n) ≡ true) ⊎ IsNoted (end_of w x).sender (end_of w (other x)).receiver n
+  -- what is to be reported stays so until it is reported; and what is noted anew is to be reported, by a packet, and of a stream that is there
+  pub kept : is_some ((end_of w (other x)).receiver.resets.told n) ≡ true →
+      (is_some ((end_of v (other x)).receiver.resets.told n) ≡ true) ⊎ ((k : ℕ) × (e ≡ WasReset (other x)) × (o ≡ Some (ResetThere n k)))
+  pub performed : IsNoted (end_of v x).sender (end_of v (other x)).receiver n → IsNoted (end_of w x).sender (end_of w (other x)).receiver n ⊎
+      (IsHeard x e × (IsMetWorld d w × (Asks (end_of w x).sender n × ((is_some ((end_of v (other x)).receiver.resets.told n) ≡ true) × (n < (end_of w (other x)).receiver.streams)))))
 
 module _ (s : Setup) (drawn : List ℕ) (within : (x : Side) → IsConfiguration (configuration_of s x)) (d : Dates) where
   -- a request that waits has shut its streams
@@ -245,6 +264,9 @@ module _ (s : Setup) (drawn : List ℕ) (within : (x : Side) → IsConfiguration
         resets = goes.resets n;
         noted = goes.noted n;
         anew = λ c is. anew c (goes.told n c is);
+        freed = goes.freed n;
+        kept = goes.kept n;
+        performed = λ h. elim (goes.performed n h) [ inl before ↦ inl before | inr new ↦ inr (new.0, (met, (new.1.1.0, (new.1.1.1, there h new.1.0)))) ];
       }
         where
           goes : StepGoes x w e o v
@@ -262,6 +284,19 @@ module _ (s : Setup) (drawn : List ℕ) (within : (x : Side) → IsConfiguration
 
           later : IsMetWorld d v
           later = met_step s drawn d w opening met e o v dates fine step
+
+          -- the stream is one of those that both agreed on
+          there : IsNoted (end_of v x).sender (end_of v (other x)).receiver n → (end_of v x).sender ≡ (end_of w x).sender → n < (end_of w (other x)).receiver.streams
+          there h same =
+              let before = (at_side d w x met.met).met.going in
+              let after = (at_side d v x later.met).met.going in
+              let a = before.outbound in
+              let b = before.inbound in
+              let c = after.outbound in
+              let e = after.inbound in
+              let k = ap (λ (y : SenderView). y.streams) same in
+              let low = listed_below (end_of v (other x)).receiver.streams h.request.streams h.there h.named in
+              omega (arith, a, b, c, e, k, low)
 
           told : (c : ℕ) → ((end_of w (other x)).receiver.resets.told n ≡ Some c) ⊎ (((end_of v x).sender ≡ (end_of w x).sender) × IsPerformed (end_of w x).sender (end_of w (other x)).receiver (end_of v (other x)).receiver n c) →
               ((end_of w (other x)).receiver.resets.told n ≡ Some c) ⊎ (IsMetWorld d w × (Asks (end_of w x).sender n × (c ≡ length (handed (end_of w (other x)).receiver n))))
@@ -295,6 +330,14 @@ module _ (s : Setup) (drawn : List ℕ) (within : (x : Side) → IsConfiguration
         resets = λ on. absurd (not_both ((end_of v x).sender.resets.sending n) (new x).sends on);
         noted = λ h on. absurd (not_both ((end_of v x).sender.resets.sending n) (new x).sends on);
         anew = λ c is. absurd (let none = (new (other x)).untold in cc);
+        freed = λ on. inl (blank_unreset (end_of w x) n (k.ends x).blank).sends;
+        kept = λ on. absurd (let none = (blank_unreset (end_of w (other x)) n (k.ends (other x)).blank).untold in cc (none, on));
+        performed = λ h.
+            let asks : Asks (end_of v x).sender n = record { request = h.request; waits = h.waits; named = h.named } in
+            let steady = steady_step s drawn within d w v e o dates fine i step in
+            let off = asks_shut v x n (asks_met d v x n steady.kept asks) asks in
+            let on = (new x).sends in
+            absurd (cc (off, on));
       }
         where
           not_both : (z : Sending) → is_sending z ≡ true → is_resetting z ≡ true → ⊥

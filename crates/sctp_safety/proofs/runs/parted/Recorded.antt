@@ -1,12 +1,12 @@
 -- A call of a receiver records no index that was reached before.
-use Rattle.std.proofs.Common.{◌≡◌, ℕ, zero, suc, ◌<◌, ◌≤◌, ◌⊎◌, Bool, true, false, List, Some, None, inl, inr, refl, sym, subst, ap, ◌∙◌, arith}
+use Rattle.std.proofs.Common.{◌≡◌, ℕ, zero, suc, ◌<◌, Bool, true, false, inl, inr, sym, subst, ap, ◌∙◌, arith}
 use Rattle.sctp_model.specs.numbers.Lists.{at}
 use Rattle.sctp_model.specs.wire.Chunk.{PieceMeaning, ForwardMeaning}
 use Rattle.sctp_model.specs.messages.Format.{Format, Kind, Ordered, Unordered}
 use Rattle.sctp_model.specs.messages.Pieces.{Piece}
-use Rattle.sctp_model.specs.receiver.ReceiverView.{Handed, ReceiverView, Reaches, IsCumulative}
-use Rattle.sctp_model.specs.receiver.Receiving.{Gives, GivesOrdered, GivesAll, recorded}
-use Rattle.sctp_model.specs.receiver.Reading.{offset, index_at, is_behind, piece_at}
+use Rattle.sctp_model.specs.receiver.ReceiverView.{ReceiverView, Reaches, IsCumulative}
+use Rattle.sctp_model.specs.receiver.Receiving.{Gives, GivesOrdered, GivesAll}
+use Rattle.sctp_model.specs.receiver.Reading.{piece_at}
 use Rattle.sctp_model.specs.receiver.PieceTaken.{PieceAnswer, Duplicate, Ahead, NoSuchStream, Passed, NoRoom, Kept, Leaves, PieceTaken, answer_to}
 use Rattle.sctp_model.specs.receiver.ForwardTaken.{ForwardAnswer, OutOfDate, Bad, Moved, forwarded, ForwardLeaves, ForwardTaken}
 use Rattle.sctp_safety.proofs.lists.Basics.{at_cases}

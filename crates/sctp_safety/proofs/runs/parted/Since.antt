@@ -1,6 +1,6 @@
 -- What a sender keeps while it goes on: its entries and its messages stay, and what takes a number waited before, or was sent later.
-use Rattle.std.proofs.Common.{◌≡◌, ℕ, zero, suc, ◌<◌, ◌≤◌, ◌⊎◌, Bool, true, false, List, [], ◌∷◌, ◌++◌, length, slice_get, Option, Some, None, inl, inr, refl, sym, subst, ap, ◌∙◌, arith, append-nil}
-use Rattle.std.specs.Prelude.{if◌then◌else◌, find, fold}
+use Rattle.std.proofs.Common.{◌≡◌, ℕ, ◌<◌, ◌≤◌, ◌⊎◌, Bool, true, false, List, [], ◌∷◌, ◌++◌, length, slice_get, Option, Some, inl, inr, refl, sym, subst, ap, ◌∙◌, arith, append-nil}
+use Rattle.std.specs.Prelude.{if◌then◌else◌, fold}
 use Rattle.std.proofs.lemmas.List.{append_assoc}
 use Rattle.sctp_model.specs.numbers.Lists.{Has}
 use Rattle.sctp_model.specs.messages.Format.{Format, Lane}
@@ -9,7 +9,7 @@ use Rattle.sctp_model.specs.sender.SenderView.{Queued, SenderView}
 use Rattle.sctp_model.specs.sender.Assigning.{with_message, with_entry, without_first}
 use Rattle.sctp_model.specs.sender.Queueing.{new_message, queued}
 use Rattle.sctp_model.specs.sender.Filling.{Wish, next_wish, gone, Follows}
-use Rattle.sctp_model.specs.sender.Abandoning.{Name, without, ended, with_abandoned, abandon_after, is_overdue, expire_one, expired, worn}
+use Rattle.sctp_model.specs.sender.Abandoning.{Name, without, with_abandoned, abandon_after, is_overdue, expire_one, expired, worn}
 use Rattle.sctp_model.specs.sender.Words.{count_up}
 use Rattle.sctp_model.specs.end.Moments.{given_up}
 use Rattle.sctp_model.proofs.sender.WishCases.{IsAssigned, Whole, Begun, Continued, after_wish}

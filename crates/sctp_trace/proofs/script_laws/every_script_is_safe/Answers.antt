@@ -7,7 +7,7 @@ returns c = λ lines written stage w goes there.
       first = c.the_pair_comes_first.ensures.first;
       pair = c.configurations_are_right.ensures.pair;
       options = c.configurations_are_right.ensures.options;
-      within = c.faultless_is_configured.ensures.within;
+      within = λ k own peer none. (c.faultless_is_configured.ensures.within k own peer none).0;
     } in
     let strangers : StrangerLaws = record { can_be = c.events_at_their_place.ensures.can_be; byte_cookies = c.premises_are_the_keys.ensures.bytes } in
     let course = has_course pairs lines written stage w goes there in

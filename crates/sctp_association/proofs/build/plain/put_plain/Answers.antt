@@ -1,10 +1,8 @@
-use Rattle.std.proofs.Common.{Bool, true, false, [], ◌∷◌, refl, sym, subst}
-use Rattle.std.specs.Prelude.{Option}
-use Rattle.sctp_model.specs.end.Pacing.{Pace}
+use Rattle.std.proofs.Common.{Bool, true, false, [], ◌∷◌, refl, subst}
 use Rattle.sctp_model.specs.end.Building.{SackSlot}
-use Rattle.sctp_association.specs.Drafted.{PutsAt, IsPacked}
+use Rattle.sctp_association.specs.Drafted.{PutsAt}
 use Rattle.sctp_association.specs.PlainPacket.{still_due, fragments_alone, plain_marks}
-use Rattle.sctp_association.proofs.BuildLemmas.{full_packet}
+use Rattle.sctp_association.proofs.BuildLemmas.{full_packet, whole_so}
 use Rattle.sctp_association.proofs.PlainLemmas.{plain_at, all_slots, plain_fills, starts_alone}
 use Rattle.sctp_association.proofs.build.plain.put_plain.Goals as goal
 
@@ -14,7 +12,7 @@ returns-then-not-branch-clause-packed c = λ e t g d phase pace clock plain calm
     c.if-not-branch.true (c.in_ok-put_due_sack.ensures e (plain_marks d c.args.sack false) stands empty.packet) in
     let puts = all_slots e d plain calm c.args.writer.now c.put_due_sack.new.writer c.args.sack c.args.sack false empty.packet one in
     let packed = full_packet e t g _ _ false c.filled_none.result phase calm.unasked empty refl puts c.filled_none.ensures in
-    (e.sender, subst (λ (o : Option Pace). IsPacked e e.sender o (plain_at d c.put_due_sack.new.writer c.args.sack false) c.filled_none.result) (sym pace) packed, stands)
+    whole_so e (plain_at d c.put_due_sack.new.writer c.args.sack false) c.filled_none.result _ _ packed stands pace
 
 pub returns-clause-packed : goal.returns-clause-packed
 returns-clause-packed c = λ e t g d phase pace clock plain calm stands empty.

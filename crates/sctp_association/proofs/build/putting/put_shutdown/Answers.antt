@@ -1,8 +1,8 @@
 use Rattle.std.proofs.Common.{false}
 use Rattle.sctp_model.specs.wire.Chunk.{Shutdown}
-use Rattle.sctp_model.specs.end.EndView.{ShutdownAlarm, format_of}
+use Rattle.sctp_model.specs.end.EndView.{format_of}
 use Rattle.sctp_model.specs.end.Building.{ShutdownSlot}
-use Rattle.sctp_association.proofs.PutLemmas.{not_due, stays_out, goes_in, started_left, says_cumulative}
+use Rattle.sctp_association.proofs.PutLemmas.{not_due, stays_out, goes_in, shutdown_left, says_cumulative}
 use Rattle.sctp_association.proofs.build.putting.put_shutdown.Goals as goal
 
 pub returns-then-not-packing : goal.returns-then-not-packing
@@ -21,5 +21,5 @@ returns c = λ e stands packet.
     let x = c.cumulative-cumulative.result in
     goes_in ShutdownSlot e c.args.packing.now (record m { shutdown = false; starts = c.add.new.self }) _ (Shutdown x) _ c.if-not-packing.false
     (says_cumulative e m x (c.cumulative-cumulative.ensures (format_of e) e.sender e.receiver stands))
-    (started_left ShutdownAlarm (record m { shutdown = false }) e c.add.new.self c.add.ensures)
+    (shutdown_left (record m { shutdown = false }) e c.add.new.self packet.options c.add.ensures)
     (λ still. still) packet c.if-not-branch.false c.in_ok-try_chunk.ensures.answer c.in_ok-try_chunk.ensures.after

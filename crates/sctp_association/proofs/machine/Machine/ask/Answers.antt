@@ -20,7 +20,7 @@ returns-clause-asked c = λ v stands.
     let made = subst (λ (b : Bool). MachineStands c.ask_sender.new.self (record v { sender = if b then asked v.sender else v.sender })) (may_then v on) (c.in_ok-request.ensures.step v stands) in
     let wait = c.asking_wait-wait.ensures (record v { sender = asked v.sender }) made in
     let due = with_due _ _ _ (record v.due { request = true }) made (c.owe_request.ensures v.due made.due) in
-    let f : Alarm → Timer = replaced ResetAlarm (record unused_timer { wait = asking_wait v }) v.timers in
+    let f : Alarm → Timer = replaced ResetAlarm (unused_timer (asking_wait v)) v.timers in
     (on, with_timers _ _ _ f due (put_new _ _ v.timers (timer_meaning c.waiting.result) _ _ c.put.ensures c.waiting.ensures wait made.timers))
 
 pub returns-clause-before : goal.returns-clause-before

@@ -10,5 +10,5 @@ returns-clause-built c = λ v stands off.
     let n = c.args.moment in
     let kept = c.keep_forward.ensures v stands in
     let packed = c.in_ok-filled.ensures.packed v (c.packing-packing.ensures.keeps v kept) off (c.packing-packing.ensures.empty v n kept) in
-    answered (record v { moment = n }) packed.0 c.pack.new.self.pace c.sent.result c.sent.new.self c.pack.new.packing c.in_ok-filled.filled packed.1
-    c.sent.ensures.packet c.sent.ensures.size c.sent.ensures.within c.sent.ensures.tickets c.sent.ensures.sendings (c.sent.ensures.stands (record v { sender = packed.0; pace = c.pack.new.self.pace }) packed.2)
+    answered (record v { moment = n }) packed.0 packed.1 c.sent.result c.sent.new.self c.pack.new.packing c.in_ok-filled.filled packed.2
+    c.sent.ensures.packet c.sent.ensures.size c.sent.ensures.within c.sent.ensures.tickets c.sent.ensures.sendings (c.sent.ensures.stands (record v { sender = packed.0; pace = packed.1 }) packed.3)

@@ -23,7 +23,7 @@ returns-clause-built c = λ v t g stands phase plain calm.
     (plain_empty v c.args.moment _ c.empty_packet-writer.result (c.empty_packet-writer.ensures.empty v stands) before.due) in
     let p = c.in_ok-plain.plain in
     let same : c.pack_plain.new.self.due ≡ c.empty_packet-writer.new.self.due = ap (λ (m : Machine). m.due) c.in_ok-plain.ensures.kept in
-    let left = c.sent_plain.ensures.stands (record v { sender = packed.0; pace = c.pack_plain.new.self.pace }) packed.2 in
-    answered e packed.0 c.pack_plain.new.self.pace c.sent_plain.result c.sent_plain.new.self (plain_at c.empty_packet-writer.new.self.due c.pack_plain.new.writer p.sack p.fragments) p.filled packed.1
+    let left = c.sent_plain.ensures.stands (record v { sender = packed.0; pace = packed.1 }) packed.3 in
+    answered e packed.0 packed.1 c.sent_plain.result c.sent_plain.new.self (plain_at c.empty_packet-writer.new.self.due c.pack_plain.new.writer p.sack p.fragments) p.filled packed.2
     c.sent_plain.ensures.packet c.sent_plain.ensures.size c.sent_plain.ensures.within c.sent_plain.ensures.tickets c.sent_plain.ensures.sendings
-    (subst (λ (n : Due). MachineStands c.sent_plain.new.self (record (drafted (plain_marks n p.sack p.fragments) e) { sender = packed.0; pace = c.pack_plain.new.self.pace })) same left)
+    (subst (λ (n : Due). MachineStands c.sent_plain.new.self (record (drafted (plain_marks n p.sack p.fragments) e) { sender = packed.0; pace = packed.1 })) same left)

@@ -5,7 +5,7 @@ use Rattle.sctp_send.specs.SenderAnswers.{fault_meaning}
 use Rattle.sctp_association.specs.MachineStands.{MachineStands}
 use Rattle.sctp_association.proofs.MachineLemmas.{at_view, with_both}
 use Rattle.sctp_association.proofs.MomentLemmas.{owed_due}
-use Rattle.sctp_association.proofs.HearingLemmas.{sack_left, counted_in}
+use Rattle.sctp_association.proofs.HearingLemmas.{sack_left, started_in}
 use Rattle.sctp_association.proofs.machine.Machine.count_sack.Goals as goal
 
 pub returns-in-Ok-clause-answer : goal.returns-in-Ok-clause-answer
@@ -18,7 +18,7 @@ returns-in-Ok-clause-step c = λ v t g stands phase.
     let took = c.in-Ok.ensures.step v t g stands phase in
     let left = c.in-Ok.ensures.left v t g stands phase in
     with_both _ x _ _ _ _ took (owed_due _ v.due _ _ (c.owe_forward.ensures v.due took.due) left.past)
-    (counted_in _ _ _ _ _ _ _ _ _ c.count.ensures left.wanted left.moved took.clock took.timers)
+    (started_in _ _ _ _ _ _ _ _ _ _ _ _ c.count.ensures left.wanted left.moved left.flies took.clock took.options.first_wait took.timers)
 
 pub returns-in-Err-clause-answer : goal.returns-in-Err-clause-answer
 returns-in-Err-clause-answer c = λ v t g stands phase. c.in-Err.ensures.answer v t g stands phase

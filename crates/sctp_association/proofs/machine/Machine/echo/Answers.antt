@@ -15,6 +15,6 @@ returns-clause-step c = λ v stands.
     let xs = c.args.cookie.now in
     let t : model.Tags = record { own = d.tag; peer = m.tag } in
     let reported = c.in_ok-reported.ensures v m (sym stands.configuration) refl stands.due.causes in
-    rw c.replace.ensures.after (joined_there _ v _ _ _ _ (terms_of_ack v.configuration d m) m.rwnd (model.Echoing t xs) (record (due_in (model.Echoing t xs) v.due) { cookie_echo = true; causes = ack_causes v m }) stands c.pace_for-self.ensures
+    rw c.replace.ensures.after (joined_there _ v _ _ _ _ (terms_of_ack v.configuration d m) m.rwnd (model.Echoing t xs) (record (due_in (model.Echoing t xs) v.due) { cookie_echo = true; causes = ack_causes v m }) stands c.pace_for.ensures
     (rw (← stands.configuration) c.of_init_ack-terms.ensures) (rw (c.in_ok-echoed.ensures, c.tag.ensures.exact) refl)
     (c.echo.ensures v.due t xs (ack_causes v m) stands.due reported) (c.echo_timers.ensures t xs) c.in_ok-traffic.ensures)

@@ -12,6 +12,7 @@ returns-clause-empty c = λ v before.
     let stands = c.take_room-room.ensures.stands v before in
     let d = c.in_room.ensures in
     record {
+      options = stands.options;
       limit = ap (λ (w : Draft). w.limit) d ∙ (c.limit.ensures.exact ∙ ap (λ (k : Configuration). k.limit) stands.configuration);
       source = ap (λ (w : Draft). w.source) d ∙ (c.own_port.ensures.exact ∙ ap (λ (k : Configuration). k.own_port) stands.configuration);
       destination = ap (λ (w : Draft). w.destination) d ∙ (c.peer_port.ensures.exact ∙ ap (λ (k : Configuration). k.peer_port) stands.configuration);

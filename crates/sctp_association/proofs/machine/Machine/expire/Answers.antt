@@ -7,7 +7,7 @@ use Rattle.sctp_association.proofs.machine.Machine.expire.Goals as goal
 pub returns-in-Unjoined : goal.returns-in-Unjoined
 unfolding MachineStands
 returns-in-Unjoined c = λ v stands.
-    at_view _ _ _ (ap (λ (s : SenderView). record v { sender = s }) (expired_fresh v.sender _ v.moment (unjoined _ _ v c.in-Unjoined.is stands).sender)) stands
+    at_view _ _ _ (ap (λ (s : SenderView). record v { sender = s }) (expired_fresh v.sender _ _ v.moment (unjoined _ _ v c.in-Unjoined.is stands).sender)) stands
 
 pub returns-in-Joined : goal.returns-in-Joined
 unfolding MachineStands

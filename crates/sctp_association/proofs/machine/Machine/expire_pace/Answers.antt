@@ -1,20 +1,19 @@
-use Rattle.std.proofs.Common.{◌≡◌, ◌∙◌, sym, ap}
-use Rattle.std.specs.Prelude.{Option, Some, None, option_map}
-use Rattle.sctp_model.specs.end.Pacing.{Pace, expired_pace}
 use Rattle.sctp_association.specs.MachineStands.{MachineStands}
-use Rattle.sctp_association.proofs.MachineLemmas.{at_view, with_pace}
-use Rattle.sctp_association.proofs.MeasureLemmas.{asked}
+use Rattle.sctp_association.proofs.MachineLemmas.{joined, unjoined}
+use Rattle.sctp_association.proofs.ProbeLemmas.{expires_none, expires_some, fresh_probes}
 use Rattle.sctp_association.proofs.machine.Machine.expire_pace.Goals as goal
 
 pub returns-in-None : goal.returns-in-None
 unfolding MachineStands
-returns-in-None c = λ v stands.
-    let none : v.pace ≡ None = sym stands.pace ∙ c.in-None.is in
-    at_view _ _ v (ap (λ (o : Option Pace). record v { pace = o }) (ap (option_map expired_pace) none ∙ sym none)) stands
+returns-in-None c = λ v stands. expires_none c.args.self.now v c.in-None.is stands
 
-pub returns-in-Some : goal.returns-in-Some
+pub returns-in-Unjoined : goal.returns-in-Unjoined
 unfolding MachineStands
-returns-in-Some c = λ v stands.
-    let there : v.pace ≡ Some c.in-Some.pace = sym stands.pace ∙ c.in-Some.is in
-    at_view _ _ _ (ap (λ (o : Option Pace). record v { pace = o }) (ap (option_map expired_pace) there ∙ ap (λ (p : Pace). Some p) (sym c.expire.ensures)))
-    (with_pace _ v (Some c.expire.new.self) stands (asked _ v _ c.expire.new.self stands there))
+returns-in-Unjoined c = λ v stands.
+    expires_some c.args.self.now v c.in-Some.pace c.expire.new.self c.in-Some.is stands (λ f cum p was. c.expire.ensures f cum v.sender p was (fresh_probes v.sender _ _ (unjoined _ _ v c.in-Unjoined.is stands).sender))
+
+pub returns-in-Joined : goal.returns-in-Joined
+unfolding MachineStands
+returns-in-Joined c = λ v stands.
+    expires_some c.args.self.now v c.in-Some.pace c.expire-in-Joined.new.self c.in-Some.is stands
+    (λ f cum p was. c.expire-in-Joined.ensures f cum v.sender p was (c.is_probe.ensures _ v.sender v.receiver (joined _ _ v c.in-Joined.is stands).traffic))

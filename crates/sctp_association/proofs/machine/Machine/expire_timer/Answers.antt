@@ -19,7 +19,7 @@ unfolding MachineStands
 returns-then-not-can_repeat c = λ v stands.
     let a = alarm_meaning c.args.alarm in
     let here = c.get-timer.ensures ∙ ap (λ (f : Alarm → Timer). f a) stands.timers in
-    at_view _ _ _ (ring_goes a v _ (timer_meaning c.get-timer.result) _ stands.clock here (sym c.is_over.ensures ∙ c.if-not-is_over.false) (sym c.can_repeat.ensures.answer ∙ c.if-not-can_repeat.true))
+    at_view _ _ _ (ring_goes c.args.alarm v _ (timer_meaning c.get-timer.result) _ stands.options stands.clock here (sym c.is_over.ensures ∙ c.if-not-is_over.false) (sym c.can_repeat.ensures.answer ∙ c.if-not-can_repeat.true))
     (c.close.ensures v stands)
 
 pub returns : goal.returns
@@ -27,6 +27,6 @@ unfolding MachineStands
 returns c = λ v stands.
     let a = alarm_meaning c.args.alarm in
     let here = c.get-timer.ensures ∙ ap (λ (f : Alarm → Timer). f a) stands.timers in
-    at_view _ _ _ (ring_goes a v _ (timer_meaning c.get-timer.result) _ stands.clock here (sym c.is_over.ensures ∙ c.if-not-is_over.false) (sym c.can_repeat.ensures.answer ∙ c.if-not-can_repeat.false))
-    (c.resend.ensures (with_timer a (expired_timer (v.timers a)) v)
-    (with_timers _ v _ _ stands (put_in a _ _ _ (timer_meaning c.expired.result) (timer_meaning c.get-timer.result) (v.timers a) c.put.ensures c.expired.ensures c.get-timer.ensures stands.timers)))
+    at_view _ _ _ (ring_goes c.args.alarm v _ (timer_meaning c.get-timer.result) _ stands.options stands.clock here (sym c.is_over.ensures ∙ c.if-not-is_over.false) (sym c.can_repeat.ensures.answer ∙ c.if-not-can_repeat.false))
+    (c.resend.ensures (with_timer a (expired_timer v.configuration.longest_wait (v.timers a)) v)
+    (with_timers _ v _ _ stands (put_in a _ _ _ (timer_meaning c.expired.result) (timer_meaning c.get-timer.result) _ c.put.ensures c.expired.ensures c.get-timer.ensures stands.options.longest_wait stands.timers)))

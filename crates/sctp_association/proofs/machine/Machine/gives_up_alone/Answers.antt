@@ -6,7 +6,7 @@ use Rattle.sctp_association.proofs.machine.Machine.gives_up_alone.Goals as goal
 
 pub returns-in-Unjoined : goal.returns-in-Unjoined
 unfolding MachineStands
-returns-in-Unjoined c = λ v stands now. unused_alone (at_moment v now) _ (unjoined _ _ v c.in-Unjoined.is stands).sender
+returns-in-Unjoined c = λ v stands now. unused_alone (at_moment v now) _ _ (unjoined _ _ v c.in-Unjoined.is stands).sender
 
 pub returns-in-Joined : goal.returns-in-Joined
 unfolding MachineStands

@@ -5,7 +5,7 @@ use Rattle.sctp_association.proofs.machine.Machine.has_gap.Goals as goal
 
 pub returns-in-Unjoined : goal.returns-in-Unjoined
 unfolding MachineStands
-returns-in-Unjoined c = λ v stands. no_gap v.receiver _ (unjoined _ _ v c.in-Unjoined.is stands).receiver
+returns-in-Unjoined c = λ v stands. no_gap v.receiver _ _ (unjoined _ _ v c.in-Unjoined.is stands).receiver
 
 pub returns-in-Joined : goal.returns-in-Joined
 unfolding MachineStands

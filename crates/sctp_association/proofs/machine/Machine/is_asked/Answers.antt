@@ -5,7 +5,7 @@ use Rattle.sctp_association.proofs.machine.Machine.is_asked.Goals as goal
 
 pub returns-in-Unjoined : goal.returns-in-Unjoined
 unfolding MachineStands
-returns-in-Unjoined c = λ v stands. unasked_fresh v.sender _ c.args.number (unjoined _ _ v c.in-Unjoined.is stands).sender
+returns-in-Unjoined c = λ v stands. unasked_fresh v.sender _ _ c.args.number (unjoined _ _ v c.in-Unjoined.is stands).sender
 
 pub returns-in-Joined : goal.returns-in-Joined
 unfolding MachineStands

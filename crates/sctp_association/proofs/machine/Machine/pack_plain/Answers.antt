@@ -16,11 +16,12 @@ unfolding MachineStands
 returns-in-Joined-clause-packed c = λ v t g stands phase plain calm empty.
     let e : EndView = record v { moment = c.args.moment } in
     let traffic = (joined _ _ v c.in-Joined.is stands).traffic in
-    plain_sender c.put_plain.result e v c.args.self.now.due c.put_plain.new.writer _ c.in-Joined.association (record c.in-Joined.association { traffic = c.put_plain.new.traffic }) c.put_plain.new.pace c.in-Joined.is stands refl c.put_plain.ensures.unpaced
+    plain_sender c.put_plain.result v c.args.moment c.args.self.now.due c.put_plain.new.writer _ c.in-Joined.association (record c.in-Joined.association { traffic = c.put_plain.new.traffic }) c.put_plain.new.pace c.in-Joined.is stands refl
     (c.put_plain.ensures.packed e t g c.args.self.now.due phase stands.pace refl plain (record { answers = calm.answers; unasked = calm.unasked }) traffic empty)
 
 pub returns-in-Joined-clause-memory : goal.returns-in-Joined-clause-memory
 unfolding MachineStands
 returns-in-Joined-clause-memory c = λ v stands.
-    still_stands c.put_plain.result v _ c.in-Joined.association (record c.in-Joined.association { traffic = c.put_plain.new.traffic }) c.put_plain.new.pace c.in-Joined.is stands refl c.put_plain.ensures.unchanged
+    still_stands c.put_plain.result v _ c.in-Joined.association (record c.in-Joined.association { traffic = c.put_plain.new.traffic }) c.put_plain.new.pace c.in-Joined.is stands refl
+    (c.put_plain.ensures.unchanged _ v.sender.cum v.pace stands.pace)
     (c.put_plain.ensures.memory _ v.sender v.receiver (joined _ _ v c.in-Joined.is stands).traffic)

@@ -9,6 +9,7 @@ returns-clause-empty c = λ v moment before.
     let fresh = c.empty_packet-writer.ensures.empty v before in
     record {
       packet = record {
+        options = fresh.options;
         limit = fresh.limit;
         source = fresh.source;
         destination = fresh.destination;

@@ -26,7 +26,7 @@ returns-in-Unjoined-clause-sender c = λ v stands.
     let least = c.fragment-fragment.ensures.least in
     let exact = c.fragment-fragment.ensures.exact in
     let some = subst (λ (x : Configuration). 0 < x.fragment) stands.configuration (omega (arith, least, exact)) in
-    subst (λ (x : SenderView). IsReached (format_of v) x) (sym (unjoined _ _ v c.in-Unjoined.is stands).sender) (Begins 0 0 v.configuration.fragment 0 _ some)
+    subst (λ (x : SenderView). IsReached (format_of v) x) (sym (unjoined _ _ v c.in-Unjoined.is stands).sender) (Begins 0 0 v.configuration.fragment 0 _ _ some)
 
 pub returns-in-Joined-clause-sender : goal.returns-in-Joined-clause-sender
 unfolding MachineStands

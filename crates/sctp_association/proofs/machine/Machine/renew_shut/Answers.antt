@@ -13,5 +13,5 @@ returns-then-moved c = λ v stands.
     let standard : v.configuration.standard_closing ≡ true =
     sym (ap (λ (k : Configuration). k.standard_closing) stands.configuration) ∙ (sym c.standard_closing.ensures ∙ c.if-standard_closing.true) in
     let timer = v.timers model.DataAlarm in
-    at_view _ _ _ (ap (λ (b : Bool). with_timer model.DataAlarm (shut_timer b c.args.moved v.moment timer) v) standard ∙ ap (λ (b : Bool). with_timer model.DataAlarm (shut_timer true b v.moment timer) v) c.if-moved.true)
+    at_view _ _ _ (ap (λ (b : Bool). with_timer model.DataAlarm (shut_timer b c.args.moved v.configuration.first_wait v.moment timer) v) standard ∙ ap (λ (b : Bool). with_timer model.DataAlarm (shut_timer true b v.configuration.first_wait v.moment timer) v) c.if-moved.true)
     (c.renew.ensures v stands)

@@ -5,7 +5,7 @@ use Rattle.sctp_association.proofs.machine.Machine.resetting_streams.Goals as go
 
 pub returns-in-Unjoined : goal.returns-in-Unjoined
 unfolding MachineStands
-returns-in-Unjoined c = λ v stands. none_resetting v.sender _ (unjoined _ _ v c.in-Unjoined.is stands).sender
+returns-in-Unjoined c = λ v stands. none_resetting v.sender _ _ (unjoined _ _ v c.in-Unjoined.is stands).sender
 
 pub returns-in-Joined : goal.returns-in-Joined
 unfolding MachineStands

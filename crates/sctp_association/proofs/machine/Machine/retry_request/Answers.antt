@@ -4,14 +4,15 @@ use Rattle.sctp_model.specs.sender.Resetting.{retried}
 use Rattle.sctp_association.specs.MachineStands.{MachineStands}
 use Rattle.sctp_association.proofs.MachineLemmas.{at_view, joined, unjoined, with_traffic}
 use Rattle.sctp_association.proofs.ResetLemmas.{retried_fresh}
+use Rattle.sctp_association.proofs.CumLemmas.{retry_stays}
 use Rattle.sctp_association.proofs.machine.Machine.retry_request.Goals as goal
 
 pub returns-in-Unjoined : goal.returns-in-Unjoined
 unfolding MachineStands
 returns-in-Unjoined c = λ v stands.
-    at_view _ _ _ (ap (λ (s : SenderView). record v { sender = s }) (retried_fresh v.sender _ (unjoined _ _ v c.in-Unjoined.is stands).sender)) stands
+    at_view _ _ _ (ap (λ (s : SenderView). record v { sender = s }) (retried_fresh v.sender _ _ (unjoined _ _ v c.in-Unjoined.is stands).sender)) stands
 
 pub returns-in-Joined : goal.returns-in-Joined
 unfolding MachineStands
 returns-in-Joined c = λ v stands.
-    with_traffic _ _ _ v (retried v.sender) v.receiver c.in-Joined.is stands (c.retry_request.ensures _ v.sender v.receiver (joined _ _ v c.in-Joined.is stands).traffic) refl refl
+    with_traffic _ _ _ v (retried v.sender) v.receiver c.in-Joined.is stands (c.retry_request.ensures _ v.sender v.receiver (joined _ _ v c.in-Joined.is stands).traffic) (retry_stays v.sender) refl refl

@@ -1,6 +1,6 @@
 use Rattle.std.proofs.Common.{◌∙◌, Bool, ap, sym}
 use Rattle.sctp_association.specs.MachineStands.{MachineStands}
-use Rattle.sctp_association.specs.Drafted.{due_left, delayed_left, receiver_left}
+use Rattle.sctp_association.specs.Drafted.{due_left, delayed_left, offered_left, receiver_left}
 use Rattle.sctp_association.specs.StartsMean.{starts_at, started_from}
 use Rattle.sctp_association.specs.PlainPacket.{plain_marks}
 use Rattle.sctp_association.proofs.MachineLemmas.{at_view, with_both}
@@ -13,6 +13,6 @@ unfolding MachineStands
 returns-clause-stands c = λ v stands.
     let told = c.when_sack_sent.ensures _ (with_moment _ v c.args.moment stands) in
     let m = plain_marks c.args.self.now.due c.args.plain.sack c.args.plain.fragments in
-    c.finished.ensures.stands _ (at_view _ _ _ (ap (λ (b : Bool). record v { moment = c.args.moment; due = due_left m v.due; timers = started_from (starts_at m.starts) c.args.moment v.timers; delayed = delayed_left b m.sack v.delayed; receiver = receiver_left b m.sack v.receiver }) (sym stands.due.sack))
+    c.finished.ensures.stands _ (at_view _ _ _ (ap (λ (b : Bool). record v { moment = c.args.moment; due = due_left m v.due; timers = started_from (starts_at m.starts) c.args.moment v.timers; delayed = delayed_left b m.sack v.delayed; offered = offered_left b m.sack v.receiver v.offered; receiver = receiver_left b m.sack v.receiver }) (sym stands.due.sack))
     (with_both _ _ _ (due_left m v.due) _ (started_from (starts_at m.starts) c.args.moment v.timers) told (due_plain _ _ v.due _ c.args.plain.fragments stands.due (c.owe_sack.ensures v.due told.due))
-    (c.start_fragments.ensures ∙ ap (started_from (starts_at m.starts) c.args.moment) told.timers)))
+    (c.start_fragments.ensures.started ∙ ap (started_from (starts_at m.starts) c.args.moment) told.timers)))

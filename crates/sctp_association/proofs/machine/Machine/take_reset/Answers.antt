@@ -5,7 +5,7 @@ use Rattle.sctp_association.proofs.machine.Machine.take_reset.Goals as goal
 
 pub returns-in-Unjoined-clause-answer : goal.returns-in-Unjoined-clause-answer
 unfolding MachineStands
-returns-in-Unjoined-clause-answer c = λ v stands. none_told v _ (unjoined _ _ v c.in-Unjoined.is stands).receiver
+returns-in-Unjoined-clause-answer c = λ v stands. none_told v _ _ (unjoined _ _ v c.in-Unjoined.is stands).receiver
 
 pub returns-in-Unjoined-clause-step : goal.returns-in-Unjoined-clause-step
 returns-in-Unjoined-clause-step c = λ v stands. stands

@@ -4,6 +4,7 @@ use Rattle.sctp_wire.specs.ChunkTree.{sack_meaning}
 use Rattle.sctp_association.specs.MachineStands.{MachineStands}
 use Rattle.sctp_association.proofs.MachineLemmas.{joined, with_traffic}
 use Rattle.sctp_association.proofs.HearingLemmas.{never_open}
+use Rattle.sctp_association.proofs.CumLemmas.{sack_rises}
 use Rattle.sctp_association.proofs.machine.Machine.take_sack.Goals as goal
 
 pub returns-in-Unjoined-clause-answer : goal.returns-in-Unjoined-clause-answer
@@ -26,7 +27,7 @@ pub returns-in-Joined-clause-step : goal.returns-in-Joined-clause-step
 unfolding MachineStands
 returns-in-Joined-clause-step c = λ v t g stands phase.
     with_traffic _ _ _ v (sack_after v.sender (sack_meaning c.args.sack.now)) v.receiver c.in-Joined.is stands
-    (c.on_sack.ensures.step _ v.sender v.receiver (joined _ _ v c.in-Joined.is stands).traffic) refl refl
+    (c.on_sack.ensures.step _ v.sender v.receiver (joined _ _ v c.in-Joined.is stands).traffic) (sack_rises v.sender (sack_meaning c.args.sack.now)) refl refl
 
 pub returns-in-Joined-clause-left : goal.returns-in-Joined-clause-left
 unfolding MachineStands

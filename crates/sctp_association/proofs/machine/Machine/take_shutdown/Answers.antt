@@ -3,6 +3,7 @@ use Rattle.sctp_model.specs.sender.SackTaken.{shutdown_after}
 use Rattle.sctp_association.specs.MachineStands.{MachineStands}
 use Rattle.sctp_association.proofs.MachineLemmas.{joined, with_traffic}
 use Rattle.sctp_association.proofs.HearingLemmas.{never_open}
+use Rattle.sctp_association.proofs.CumLemmas.{shutdown_rises}
 use Rattle.sctp_association.proofs.machine.Machine.take_shutdown.Goals as goal
 
 pub returns-in-Unjoined-clause-answer : goal.returns-in-Unjoined-clause-answer
@@ -21,4 +22,4 @@ pub returns-in-Joined-clause-step : goal.returns-in-Joined-clause-step
 unfolding MachineStands
 returns-in-Joined-clause-step c = λ v t g stands phase.
     with_traffic _ _ _ v (shutdown_after v.sender c.args.tsn) v.receiver c.in-Joined.is stands
-    (c.on_shutdown.ensures.step _ v.sender v.receiver (joined _ _ v c.in-Joined.is stands).traffic) refl refl
+    (c.on_shutdown.ensures.step _ v.sender v.receiver (joined _ _ v c.in-Joined.is stands).traffic) (shutdown_rises v.sender c.args.tsn) refl refl

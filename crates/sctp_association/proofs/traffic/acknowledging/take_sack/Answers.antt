@@ -1,3 +1,4 @@
+use Rattle.std.proofs.Common.{ap, nat_lt}
 use Rattle.sctp_model.specs.sender.SackTaken.{sack_after}
 use Rattle.sctp_wire.specs.ChunkTree.{sack_meaning}
 use Rattle.sctp_association.proofs.HearingLemmas.{less_as}
@@ -11,4 +12,5 @@ returns-in-Ok-clause-left g c = λ s stands.
       moved = less_as _ _ _ _ (c.cum-before.ensures s stands) (c.cum-cum.ensures u now);
       wanted = c.unsettled.ensures u now;
       past = less_as _ _ _ _ (c.cum-cum.ensures u now) (c.point.ensures u now);
+      flies = ap (nat_lt 0) (c.in_flight.ensures u now);
     }

@@ -1,7 +1,6 @@
-use Rattle.std.proofs.Common.{◌≡◌, Some, sym, subst}
+use Rattle.std.proofs.Common.{Some, subst}
 use Rattle.sctp_model.specs.receiver.ReceiverView.{Handed}
 use Rattle.sctp_model.specs.end.UserCalls.{UserTakes}
-use Rattle.sctp_recv.specs.HandedOf.{handed_of}
 use Rattle.sctp_channels.specs.ChannelsStand.{ChannelsStand, endpoint_of, table_of}
 use Rattle.sctp_channels.proofs.CalmLemmas.{taken_calm, took_this}
 use Rattle.sctp_channels.proofs.channels.Channels.drop_first.Goals as goal

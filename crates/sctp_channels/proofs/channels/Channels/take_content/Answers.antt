@@ -1,7 +1,11 @@
-use Rattle.std.proofs.Common.{ap, ◌∙◌, subst, Some}
+use Rattle.std.proofs.Common.{ap, ◌∙◌, subst, sym, Some}
 use Rattle.sctp_model.specs.end.EndView.{EndView}
 use Rattle.sctp_endpoint.specs.EndpointStands.{EndpointStands}
-use Rattle.sctp_channels.specs.Told.{Message, Report}
+use Rattle.sctp_channels.specs.declared.stream.Stream.{Stream}
+use Rattle.sctp_channels.specs.Streams.{is_reset, with_stream}
+use Rattle.sctp_channels.specs.Told.{Message}
+use Rattle.sctp_channels.specs.Coming.{one_taken}
+use Rattle.sctp_channels.specs.Events.{first_taken_at, one_on}
 use Rattle.sctp_channels.specs.inner.SaidMeans.{kind_meaning}
 use Rattle.sctp_channels.specs.ChannelsStand.{ChannelsStand, IsCalm, endpoint_of, table_of}
 use Rattle.sctp_channels.proofs.HearingLemmas.{took}
@@ -18,9 +22,10 @@ returns-clause-step c = λ v x h rest stands waits kept.
     let calm = taken_calm _ v step.0 x s _ step.1 stands.2 in
     record {
       report = ap Some (c.content_event.ensures ∙ ap (λ (bytes : _). record { stream = s; told = Message (kind_meaning bytes k) }) taken.0);
-      stands = c.count_taken.ensures.step _ x (
-        subst (λ (t : EndView). EndpointStands c.take-message.new.self t) taken.1 step.2,
-        stands.1,
-        subst (λ (t : EndView). IsCalm c.args.self.now.is_calm t x) taken.1 calm,
-      ) kept;
+      stands = subst (λ (y : Stream). ChannelsStand c.count_taken.new.self (first_taken_at v s h rest) (record (with_stream x s (one_taken y)) { next = one_on s })) (sym kept)
+          (c.count_taken.ensures.step _ x (
+            subst (λ (t : EndView). EndpointStands c.take-message.new.self t) taken.1 step.2,
+            stands.1,
+            subst (λ (t : EndView). IsCalm c.args.self.now.is_calm t x) taken.1 calm,
+          ) (c.is_reset.ensures ∙ ap (λ (y : Stream). is_reset y.resets) kept));
     }

@@ -1,4 +1,5 @@
-use Rattle.std.proofs.Common.{refl}
+use Rattle.std.proofs.Common.{refl, subst}
+use Rattle.sctp_terms.specs.PlainOptions.{HasPlainOptions}
 use Rattle.sctp_end.specs.Performing.{TakesOne, TakesNone, WantsMemory}
 use Rattle.sctp_end.proofs.SessionLemmas.{counted_as, took, nothing_waits}
 use Rattle.sctp_end.proofs.session.Session.take.Goals as goal
@@ -11,7 +12,8 @@ returns-in-Ok-Some c = λ v stands.
 
 pub returns-in-Ok-None : goal.returns-in-Ok-None
 returns-in-Ok-None c = λ v stands.
-    (v, TakesNone _ _ (nothing_waits v _ (rw c.in-Ok-None.field-0-is at (c.in-Ok-None.ensures v stands))), stands)
+    let options : HasPlainOptions v.configuration = subst HasPlainOptions (c.config.ensures v stands) c.limit-limit.ensures.plain in
+    (v, TakesNone _ _ (nothing_waits v _ options (rw c.in-Ok-None.field-0-is at (c.in-Ok-None.ensures v stands))), stands)
 
 pub returns-in-Err : goal.returns-in-Err
 returns-in-Err c = λ v stands. (v, WantsMemory _ refl, stands)

@@ -2,7 +2,7 @@ use Rattle.std.proofs.Common.{◌≡◌, ◌-◌, ℕ, [], length, sym, ◌∙�
 use Rattle.std.proofs.lemmas.Bool.Decides.{nat_tests}
 use Rattle.std.proofs.lemmas.List.{nil_from_length}
 use Rattle.sctp_model.specs.numbers.Serial.{tsn}
-use Rattle.sctp_model.specs.receiver.ReceiverView.{held_bytes}
+use Rattle.sctp_model.specs.receiver.ReceiverView.{held_bytes, room_left}
 use Rattle.sctp_recv.specs.StandsFor.{StandsFor}
 use Rattle.sctp_recv.proofs.GapLemmas.{told_run, none_told}
 use Rattle.sctp_recv.proofs.ReceiverSteps.{cumulative_is}
@@ -24,7 +24,7 @@ unfolding StandsFor
 returns g c = λ v w.
     let s = c.args.self.now.seen.kept in
     let first = c.sack_words.ensures.cumulative ∙ ap (λ (i : ℕ). tsn i s.cumulative) (sym w.0.initial) in
-    let room : c.sack_words.result.rwnd ≡ v.buffer - held_bytes v = let held = w.0.held in let all = w.0.buffer in let left = c.sack_words.ensures.rwnd in omega arith in
+    let room : c.sack_words.result.rwnd ≡ room_left v = let held = w.0.held in let all = w.0.buffer in let none = w.0.reserve in let left = c.sack_words.ensures.rwnd in omega arith in
     let none : s.runs ≡ [] = nil_from_length _ (grind (arith, c.if-has_runs.false, c.has_runs.ensures, nat_tests)) in
     let empty : [] ≡ v.duplicates = sym (w.0.duplicates ∙ nil_from_length _ (grind (arith, c.if-has_some.false, c.has_some.ensures, nat_tests))) in
     record {

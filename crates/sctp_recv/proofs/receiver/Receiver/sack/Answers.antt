@@ -2,7 +2,7 @@ use Rattle.std.proofs.Common.{◌≡◌, ◌-◌, ℕ, map, sym, ◌∙◌, ap, 
 use Rattle.std.proofs.lemmas.List.{take-map}
 use Rattle.sctp_model.specs.numbers.Limits.{BLOCK_LIMIT}
 use Rattle.sctp_model.specs.numbers.Serial.{tsn}
-use Rattle.sctp_model.specs.receiver.ReceiverView.{held_bytes}
+use Rattle.sctp_model.specs.receiver.ReceiverView.{held_bytes, room_left}
 use Rattle.sctp_recv.specs.Blocks.{block_of_run}
 use Rattle.sctp_recv.specs.StandsFor.{StandsFor}
 use Rattle.sctp_recv.proofs.BlockLemmas.{all_runs}
@@ -14,7 +14,7 @@ unfolding StandsFor
 returns-clause-sack g c = λ v w.
     let s = c.args.self.now.seen.kept in
     let first = c.sack_words-words.ensures.cumulative ∙ ap (λ (i : ℕ). tsn i s.cumulative) (sym w.0.initial) in
-    let room : c.sack_words-words.result.rwnd ≡ v.buffer - held_bytes v = let held = w.0.held in let all = w.0.buffer in let left = c.sack_words-words.ensures.rwnd in omega arith in
+    let room : c.sack_words-words.result.rwnd ≡ room_left v = let held = w.0.held in let all = w.0.buffer in let none = w.0.reserve in let left = c.sack_words-words.ensures.rwnd in omega arith in
     let lowest = c.in_ok-put_blocks.ensures.blocks ∙ sym (take-map (block_of_run s.cumulative) BLOCK_LIMIT s.runs) in
     let again = c.in_ok-put.ensures.words ∙ sym w.0.duplicates in
     record {

@@ -56,6 +56,7 @@ loop-fragment-preserved c = elim c.match-pop.branch [
         long = omega (arith, long, one);
         room = record {
           size = ap (λ (x : Stock). x.outstanding.size) come ∙ was.room.size;
+          header = ap (λ (x : Stock). x.outstanding.header) come ∙ was.room.header;
           capacity = ap (λ (x : Stock). x.outstanding.capacity) come ∙ was.room.capacity;
         };
       }

@@ -32,3 +32,6 @@ pub returns-clause-items : goal.returns-clause-items
 returns-clause-items c =
     let es = c.args.entries.now.items in
     rw (changed_set (stood c.args.state) c.args.at es c.index_mut-entry.result.now c.requires.within c.index_mut-entry.ensures.value) refl
+
+pub returns-clause-header : goal.returns-clause-header
+returns-clause-header c = rw (c.lower.ensures c.args.size, c.enter.ensures, c.leave.ensures) refl

@@ -1,4 +1,4 @@
-use Rattle.std.proofs.Common.{set, sym, ◌∙◌, ap, subst}
+use Rattle.std.proofs.Common.{set, refl, sym, ◌∙◌, ap, subst}
 use Rattle.sctp_send.specs.inner.Stocking.{went_out}
 use Rattle.sctp_send.specs.declared.kept.entry.Entry.{Entry as EntryFields}
 use Rattle.sctp_send.proofs.kept.ChangedLemmas.{changed_set}
@@ -27,3 +27,6 @@ returns-clause-counted c =
     let same = read_twice es c.args.at c.index.result.now e c.requires.within c.index.ensures c.index_mut-entry.ensures.value in
     let first = subst IsFirst same (is_first c.args.size c.index.result.now (sym (c.is_first_sending.ensures c.args.size) ∙ c.if-not-is_first_sending.false)) in
     rw (c.furthest-counts.ensures, c.enter_plain.ensures) (counts_sent c.args.size es c.args.at e c.args.counts.now c.requires.within c.index_mut-entry.ensures.value first c.requires.counted)
+
+pub returns-clause-header : goal.returns-clause-header
+returns-clause-header c = rw c.enter_plain.ensures refl

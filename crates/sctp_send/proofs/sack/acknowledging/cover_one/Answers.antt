@@ -39,3 +39,9 @@ pub returns-clause-items : goal.returns-clause-items
 returns-clause-items c =
     let es = c.args.entries.now.items in
     rw (changed_set as_covered c.args.at es c.index_mut-entry.result.now c.requires.within c.index_mut-entry.ensures.value, c.unmarked-entry.ensures) refl
+
+pub returns-then-not-entry-clause-header : goal.returns-then-not-entry-clause-header
+returns-then-not-entry-clause-header c = rw c.leave_plain.ensures refl
+
+pub returns-clause-header : goal.returns-clause-header
+returns-clause-header c = rw c.leave.ensures refl

@@ -7,7 +7,7 @@ use Rattle.sctp_send.proofs.sack.TellLemmas.{run_starts, run_step}
 use Rattle.sctp_send.proofs.sack.acknowledging.tell_entries.Goals as goal
 
 pub loop-at-init : goal.loop-at-init
-loop-at-init c = record { told = run_starts c.args.covered c.args.from c.args.entries.now.items; counted = c.requires.counted; capacity = refl }
+loop-at-init c = record { told = run_starts c.args.covered c.args.from c.args.entries.now.items; counted = c.requires.counted; header = refl; capacity = refl }
 
 pub tell_one-requires : goal.tell_one-requires
 tell_one-requires c =
@@ -22,5 +22,6 @@ loop-at-preserved c =
     record {
       told = c.tell_one.ensures.items ∙ ap (changed_at (told c.args.covered) c.loop-at.at) h.told ∙ run_step c.args.covered c.args.from c.loop-at.at c.args.entries.now.items c.loop-at.auto.at;
       counted = c.tell_one.ensures.counted;
+      header = c.tell_one.ensures.header ∙ h.header;
       capacity = c.tell_one.ensures.capacity ∙ h.capacity;
     }

@@ -9,5 +9,6 @@ abbrev pub invariant-loop-at : goal.invariant-loop-at
 invariant-loop-at l = record {
   told : l.entries.items ≡ told_where l.covered (is_between l.from l.at) 1 l.initial.entries.items;
   counted : IsCounted l.size l.entries.items l.counts;
+  header : l.counts.header ≡ l.initial.counts.header;
   capacity : deque_capacity l.entries ≡ deque_capacity l.initial.entries;
 }

@@ -39,3 +39,9 @@ returns-then-not-entry-clause-items c =
     let x = c.index_mut-entry.result.now in
     let same : as_uncovered x ≡ x = ap (λ (b : Bool). record x { covered = b }) (sym c.if-not-entry.true) in
     subst (λ (y : EntryFields). set es c.args.at y ≡ changed_at as_uncovered c.args.at es) same (sym (changed_set as_uncovered c.args.at es x c.requires.within c.index_mut-entry.ensures.value))
+
+pub returns-clause-header : goal.returns-clause-header
+returns-clause-header c = rw (c.lower.ensures c.args.size, c.enter.ensures) refl
+
+pub returns-then-is_plain-clause-header : goal.returns-then-is_plain-clause-header
+returns-then-is_plain-clause-header c = rw c.enter_plain.ensures refl

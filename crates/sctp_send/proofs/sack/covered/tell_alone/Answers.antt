@@ -11,7 +11,7 @@ loop-run-init c = record {
   items = λ sorted order. alone_start c.args.covered c.args.others.now c.args.outstanding.now.items;
   passed = λ sorted d some i past. refl;
   count = refl;
-  room = record { size = refl; capacity = refl };
+  room = record { size = refl; header = refl; capacity = refl };
 }
 
 pub loop-run-preserved : goal.loop-run-preserved
@@ -36,7 +36,7 @@ loop-run-preserved c =
           let next = next_begins runs 0 k r none d sorted more refl in
           passed_on c.args.others.now c.tell_gaps-first.result _ (get_or runs (k + 1) d).from (omega (arith, ends, next, from, end)) (c.tell_gaps-first.ensures.passed (subst (HasPassed c.args.others.now c.loop-run.first) (sym from) (before.passed sorted none some)));
       count = c.tell_gaps-first.ensures.long ∙ before.count;
-      room = record { size = c.tell_gaps-first.ensures.kept.size ∙ before.room.size; capacity = c.tell_gaps-first.ensures.kept.capacity ∙ before.room.capacity };
+      room = record { size = c.tell_gaps-first.ensures.kept.size ∙ before.room.size; header = c.tell_gaps-first.ensures.kept.header ∙ before.room.header; capacity = c.tell_gaps-first.ensures.kept.capacity ∙ before.room.capacity };
     }
 
 pub returns-clause-items : goal.returns-clause-items

@@ -13,7 +13,7 @@ loop-next-init c = record {
   passed = λ passed. passed;
   items = λ order passed. gaps_start c.args.covered c.args.runs.now c.args.from c.args.to c.args.outstanding.now.items;
   count = refl;
-  room = record { size = refl; capacity = refl };
+  room = record { size = refl; header = refl; capacity = refl };
 }
 
 pub loop-next-preserved : goal.loop-next-preserved
@@ -33,7 +33,7 @@ loop-next-preserved c =
           gaps_more c.args.covered c.args.runs.now c.loop-next.next run none c.args.from c.loop-next.at c.args.to c.min-gap.result c.max-at.result c.args.outstanding.now.items now c.tell_run.new.self.items order (omega arith) refl before.low
           (c.min-gap.ensures ∙ ap (λ (n : ℕ). min n c.args.to) from) (c.max-at.ensures ∙ ap (max c.loop-next.at) end) (before.passed passed) (before.items order passed) ((ap (λ (w : OutstandingKept). w.items) c.tell_run.ensures) ∙ ap (λ (n : ℕ). told_where c.args.covered (is_between n c.min-gap.result) 1 now) c.min.ensures);
       count = ap length (ap (λ (w : OutstandingKept). w.items) c.tell_run.ensures) ∙ length-each (told_at c.args.covered (is_between c.min.result c.min-gap.result)) 1 now ∙ before.count;
-      room = record { size = ap (λ (w : OutstandingKept). w.size) c.tell_run.ensures ∙ before.room.size; capacity = ap (λ (w : OutstandingKept). w.capacity) c.tell_run.ensures ∙ before.room.capacity };
+      room = record { size = ap (λ (w : OutstandingKept). w.size) c.tell_run.ensures ∙ before.room.size; header = ap (λ (w : OutstandingKept). w.header) c.tell_run.ensures ∙ before.room.header; capacity = ap (λ (w : OutstandingKept). w.capacity) c.tell_run.ensures ∙ before.room.capacity };
     }
 
 pub returns-then-to-end-clause-items : goal.returns-then-to-end-clause-items

@@ -17,7 +17,7 @@ loop-block-init c =
       ordered = good.1;
       inside = good.0;
       count = length-each (told_at false (is_between 0 c.len-last.result)) 1 before;
-      room = record { size = refl; capacity = refl };
+      room = record { size = refl; header = refl; capacity = refl };
       told = rw c.len-last.ensures (told_anew (in_blocks 0 c.args.blocks.now) before);
     })
 
@@ -35,7 +35,7 @@ loop-block-preserved c =
       ordered = good.2;
       inside = short.1;
       count = length-each (told_at true (is_between (b.start - 1) b.end)) 1 now ∙ so_far.count;
-      room = record { size = so_far.room.size; capacity = so_far.room.capacity };
+      room = record { size = so_far.room.size; header = so_far.room.header; capacity = so_far.room.capacity };
       told = block_told b bs now ∙ (rw steps at so_far.told);
     })
 

@@ -8,5 +8,5 @@ loop-preserved c =
     let before = c.loop.invariant in
     rw c.pop_front.ensures (record {
       items = ap (λ (es : List EntryFields). drop 1 es) before.items ∙ drop-drop 1 c.loop.counter c.args.outstanding.now.items;
-      room = record { size = before.room.size; capacity = before.room.capacity };
+      room = record { size = before.room.size; header = before.room.header; capacity = before.room.capacity };
     })

@@ -1,10 +1,11 @@
-use Rattle.std.proofs.Common.{◌≡◌, Bool, true, List, map, refl, ap, sym, ◌∙◌, subst}
+use Rattle.std.proofs.Common.{◌≡◌, ℕ, Bool, true, false, List, map, refl, ap, sym, ◌∙◌, subst}
+use Rattle.std.specs.Prelude.{Result, Ok, Err, is_err, OnOk}
 use Rattle.sctp_values.specs.declared.ticket.Ticket.{Ticket}
 use Rattle.sctp_model.specs.wire.Chunk.{ChunkMeaning}
 use Rattle.sctp_model.specs.sender.Filling.{fill, chunk_of, IsFill}
 use Rattle.sctp_model.proofs.sender.FillLaws.{one_fill, fill_is_fill}
 use Rattle.sctp_packet.specs.Draft.{Draft as PacketDraft, room_in, with_chunks, with_space}
-use Rattle.sctp_send.specs.FillAnswers.{sendings_of}
+use Rattle.sctp_send.specs.FillAnswers.{sendings_of, AreSentAgain}
 use Rattle.sctp_send.specs.SenderKept.{Kept}
 use Rattle.sctp_send.specs.SenderStands.{StandsFor, Keeps}
 use Rattle.sctp_send.specs.inner.Stocking.{bare, numbers_of, all_numbered, stocked, AreOpen}
@@ -48,9 +49,22 @@ returns-clause-sendings g c = λ v stands.
     let begun : Keeps f (stocked (bare s.told) c.reserve_all.new.stock) v = rw (c.in-Ok.ensures.same, c.in-Ok.ensures.fresh) keeps in
     let all = c.put_all-sendings.ensures.all v begun in
     let filled = subst (λ (p : PacketDraft). IsFill f v (room_in p) all.wishes all.view) c.in-Ok.ensures.reserved all.fill in
-    all.counts ∙ ap (sendings_of c.args.missed) (one_fill f v all.view (fill f room v).view room all.wishes (fill f room v).wishes filled (fill_is_fill f room v)).0
+    all.counts ∙ ap sendings_of (one_fill f v all.view (fill f room v).view room all.wishes (fill f room v).wishes filled (fill_is_fill f room v)).0
+
+-- what is so if a call succeeds is so
+succeeded : {A E : Type 0} (P : Type 0) (r : Result A E) → is_err r ≡ false → OnOk r P → P
+succeeded P (Ok x) off said = said
+succeeded P (Err e) off said = absurd (cc)
+
+pub returns-clause-again : goal.returns-clause-again
+unfolding StandsFor
+returns-clause-again g c = λ v stands.
+    let f = g.F.Framing.format in
+    let is = c.list_again.new.again.items in
+    subst (λ (n : ℕ). AreSentAgain v (fill f n v).wishes is) c.room-room.ensures.room
+    (succeeded (AreSentAgain v (fill f c.room-room.result v).wishes is) c.list_again.result (sym c.is_err.ensures.value ∙ c.if-is_err.false) (c.list_again.ensures v stands))
 
 pub returns-in_default-clause-sendings : goal.returns-in_default-clause-sendings
 returns-in_default-clause-sendings g c = λ v stands.
     let now = subst (λ (k : Kept). StandsFor g.F.Framing.format k v) (sym c.self.view_is) stands in
-    rw (c.in_default.ensures.same, c.in_default.ensures.unchanged) at (c.fill_unreserved.ensures.sendings v c.args.missed) now
+    rw (c.in_default.ensures.same, c.in_default.ensures.unchanged) at (c.fill_unreserved-in_default.ensures.sendings v) now

@@ -22,5 +22,6 @@ returns g c = λ v stands none.
     let covered = subst (λ (o : _). AreCovered o v.covered v.cum) (sym runs) stands.holds.covered in
     let lie = lie_covered f c.args.self.now v c.known_runs.result.now stands (λ i some on. c.known_runs.ensures v.covered v.cum i covered some on) in
     let lies = subst (λ (xs : List Item). LieCovered c.known_runs.result.now xs) (sym items) lie in
-    let tallied = subst (λ (xs : List Item). IsTallied xs (sack_covers n c.args.sack.now.blocks) c.of_blocks-tally.result) items (c.of_blocks-tally.ensures lies (sound v x none).good) in
+    let tallied = subst (λ (header : ℕ). IsTallied header c.args.self.now.items (sack_covers n c.args.sack.now.blocks) c.of_blocks-tally.result) c.self.invariant.header
+    (subst (λ (xs : List Item). IsTallied s.parts.outstanding.header xs (sack_covers n c.args.sack.now.blocks) c.of_blocks-tally.result) items (c.of_blocks-tally.ensures lies (sound v x none).good)) in
     c.weight_of.ensures v (sack_after v x) (sack_covers n c.args.sack.now.blocks) c.args.timed stands (after_sack f v x n stands.reached p none) tallied (c.is_acked_by_blocks-acked.ensures v stands)

@@ -26,5 +26,6 @@ returns g c = λ v stands none.
     let covered = subst (λ (o : _). AreCovered o v.covered v.cum) (sym runs) stands.holds.covered in
     let off = none_closed f c.args.self.now v c.last_known.result stands (λ i lo hi. c.last_known.ensures v.covered v.cum i covered lo (omega (arith, hi, count))) in
     let offs = subst (λ (xs : List Item). (j : ℕ) → c.last_known.result < j → passes_here is_item_closed xs (j - 1) ≡ false) (sym items) off in
-    let tallied = subst (λ (xs : List Item). IsTallied xs (Shut xs n) c.of_shutdown-tally.result) items (c.of_shutdown-tally.ensures offs) in
+    let tallied = subst (λ (header : ℕ). IsTallied header c.args.self.now.items (Shut c.args.self.now.items n) c.of_shutdown-tally.result) c.self.invariant.header
+    (subst (λ (xs : List Item). IsTallied s.parts.outstanding.header xs (Shut xs n) c.of_shutdown-tally.result) items (c.of_shutdown-tally.ensures offs)) in
     c.weight_of.ensures v (shutdown_after v c.args.tsn) (Shut c.args.self.now.items n) c.args.timed stands (after_shutdown f c.args.self.now v c.args.tsn n stands p none) tallied (c.is_acked_by_shutdown-acked.ensures v stands)

@@ -131,6 +131,7 @@ returns-clause-sized g c =
       some = c.requires.sized.some;
       short = c.requires.sized.short;
       window = all.room.size ∙ ap (λ (w : OutstandingKept). w.size) c.put.ensures ∙ c.requires.sized.window;
+      header = all.room.header ∙ ap (λ (w : OutstandingKept). w.header) c.put.ensures ∙ c.requires.sized.header;
       queue = ap (λ (d : Stock). d.queue.size) all.same ∙ ap (λ (w : QueueKept). w.size) (c.remove.ensures.some c.in-Some.ensures.message.0) ∙ c.requires.sized.queue;
       tracks = all.sized ∙ ap (λ (w : StreamsKept). w.size) c.number_one-number.ensures.counted ∙ c.requires.sized.tracks;
     }

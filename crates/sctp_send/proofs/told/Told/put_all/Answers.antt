@@ -11,7 +11,7 @@ loop-turn-init g c = record {
   reserved = c.requires.reserved;
   sized = c.requires.sized;
   left = let none = ap length c.requires.fresh in omega (arith, none);
-  so_far = λ v keeps. loop_init g.F.Framing.format (bare c.args.self.now) v c.args.packet.now c.args.stock.now c.args.missed c.none-sendings.result keeps c.requires.fresh c.none-sendings.ensures;
+  so_far = λ v keeps. loop_init g.F.Framing.format (bare c.args.self.now) v c.args.packet.now c.args.stock.now c.none-sendings.result keeps c.requires.fresh c.none-sendings.ensures;
 }
 
 pub go-requires-clause-told : goal.go-requires-clause-told
@@ -32,10 +32,9 @@ loop-turn-preserved g c =
       so_far = λ v keeps.
           let x = before.so_far v keeps in
           let goes = c.in-Some.ensures.goes x.view c.loop-turn.packet x.keeps c.room.ensures.room in
-          let can = c.in-Some.ensures.can c.loop-turn.packet c.room.ensures.room in
           let put = subst (λ (d : Stock). Keeps f (stocked s d) x.view → IsPut f s x.view c.loop-turn.packet c.go.new.packet d c.go.new.stock) same (λ k. c.go.ensures.put x.view k goes) in
-          loop_more f s v c.args.packet.now c.loop-turn.packet c.go.new.packet c.loop-turn.stock c.go.new.stock c.loop-turn.turn c.args.missed c.loop-turn.sendings c.count.new.self x (omega (arith, c.loop-turn-test.true, c.requires.few)) (put x.keeps)
-          (λ w is. c.count.ensures ∙ counted_going f s x.view c.loop-turn.packet c.args.self.now c.loop-turn.stock c.in-Some.going c.args.missed c.loop-turn.sendings w x.keeps can goes.0 is);
+          loop_more f s v c.args.packet.now c.loop-turn.packet c.go.new.packet c.loop-turn.stock c.go.new.stock c.loop-turn.turn c.loop-turn.sendings c.count.new.self x (omega (arith, c.loop-turn-test.true, c.requires.few)) (put x.keeps)
+          (λ w is. c.count.ensures ∙ counted_going f _ x.view c.in-Some.going c.loop-turn.sendings w x.keeps goes.0 is);
     }
 
 pub returns-in_default-clause-all : goal.returns-in_default-clause-all
@@ -44,9 +43,9 @@ returns-in_default-clause-all g c = λ v keeps.
     let s = bare c.args.self.now in
     let x = c.loop-turn.invariant.so_far v keeps in
     let none = c.in_default.ensures.goes x.view c.loop-turn.packet x.keeps c.room.ensures.room in
-    subst (λ (d : Stock). AllPut f s v c.args.packet.now c.loop-turn.packet d c.args.missed c.loop-turn.sendings) (sym c.in_default.ensures.same)
-    (loop_stopped f s v c.args.packet.now c.loop-turn.packet c.loop-turn.stock c.loop-turn.turn c.args.missed c.loop-turn.sendings x none)
+    subst (λ (d : Stock). AllPut f s v c.args.packet.now c.loop-turn.packet d c.loop-turn.sendings) (sym c.in_default.ensures.same)
+    (loop_stopped f s v c.args.packet.now c.loop-turn.packet c.loop-turn.stock c.loop-turn.turn c.loop-turn.sendings x none)
 
 pub returns-clause-all : goal.returns-clause-all
 returns-clause-all g c = λ v keeps.
-    absurd (loop_ends g.F.Framing.format (bare c.args.self.now) v c.args.packet.now c.loop-turn.packet c.loop-turn.stock c.loop-turn.turn c.args.missed c.loop-turn.sendings (c.loop-turn.invariant.so_far v keeps) (omega (arith, c.requires.more, c.loop-turn-test.false)))
+    absurd (loop_ends g.F.Framing.format (bare c.args.self.now) v c.args.packet.now c.loop-turn.packet c.loop-turn.stock c.loop-turn.turn c.loop-turn.sendings (c.loop-turn.invariant.so_far v keeps) (omega (arith, c.requires.more, c.loop-turn-test.false)))

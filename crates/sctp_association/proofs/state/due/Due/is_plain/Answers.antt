@@ -10,6 +10,7 @@ returns-in-None c = λ d stands is.
     record {
       cookie_ack = c.if-self.false;
       heartbeat = none_left true d.heartbeat (sym stands.heartbeat ∙ ap (option_map info_bytes) c.in-None.is);
+      beat = stands.beat;
       causes = no_causes_left true d.causes (sym (ap length stands.causes.bytes_are) ∙ none);
       forward = c.if-self-2.false;
       request = c.if-self-3.false;

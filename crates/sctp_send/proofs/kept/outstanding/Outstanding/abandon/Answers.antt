@@ -12,6 +12,7 @@ pub loop-rank-init : goal.loop-rank-init
 loop-rank-init c = record {
   kept = c.self.invariant;
   size = refl;
+  header = refl;
   room = refl;
   own = c.own-own.ensures;
   abandoned = refl;
@@ -42,8 +43,9 @@ loop-rank-preserved c =
     let at = c.own_offset-at.result in
     let items = c.abandon_one.ensures.items in
     record {
-      kept = entry_changed at (as_abandoned t) (abandoned_ticket t) items c.abandon_one.ensures.counted c.abandon_one.ensures.capacity c.index.ensures c.forget_stretch.ensures.others c.forget_stretch.ensures.here h.kept;
+      kept = entry_changed at (as_abandoned t) (abandoned_ticket t) items c.abandon_one.ensures.counted c.abandon_one.ensures.header c.abandon_one.ensures.capacity c.index.ensures c.forget_stretch.ensures.others c.forget_stretch.ensures.here h.kept;
       size = h.size;
+      header = c.abandon_one.ensures.header ∙ h.header;
       room = h.room;
       own = subst (λ (ts : List ℕ). IsOwn t ts first ps own) (sym (ap tickets_of items ∙ changed_tickets (as_abandoned t) (abandoned_ticket t) at es)) h.own;
       abandoned = ap (all_abandoned t) items ∙ changed_abandoned t at es ∙ h.abandoned;
@@ -61,4 +63,4 @@ returns c =
     let es = s.entries.items in
     let all = all_are_abandoned t es (own_passed es s.by_ticket.first s.by_ticket.pairs.items c.own-own.result (IsAbandonedAlready t) t h.own (abandoned_other t)
     (λ k e upto read. h.fixed k e (omega (arith, upto, c.loop-rank-test.false)) read)) in
-    rw (← c.self.view_is) (record { items = sym all ∙ h.abandoned; kept = record { size = h.size; capacity = h.room } })
+    rw (← c.self.view_is) (record { items = sym all ∙ h.abandoned; kept = record { size = h.size; header = h.header; capacity = h.room } })

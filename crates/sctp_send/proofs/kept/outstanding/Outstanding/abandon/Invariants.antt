@@ -13,6 +13,7 @@ invariant-loop-rank l =
     record {
       kept : IsInOrder s.size s.entries.items (deque_capacity s.entries) s.counts s.by_ticket s.room s.stretches.items;
       size : s.size ≡ t.size;
+      header : s.counts.header ≡ t.counts.header;
       room : s.room ≡ t.room;
       own : IsOwn l.ticket (tickets_of s.entries.items) s.by_ticket.first s.by_ticket.pairs.items l.own;
       abandoned : all_abandoned l.ticket s.entries.items ≡ all_abandoned l.ticket t.entries.items;

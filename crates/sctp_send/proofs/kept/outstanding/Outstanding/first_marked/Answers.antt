@@ -1,4 +1,4 @@
-use Rattle.std.proofs.Common.{◌<◌, ◌≤◌, length, arith}
+use Rattle.std.proofs.Common.{refl, ◌<◌, ◌≤◌, length, arith}
 use Rattle.std.specs.VecDeque.{deque_capacity}
 use Rattle.sctp_send.specs.inner.Wishing.{is_item_marked}
 use Rattle.sctp_send.proofs.kept.CursorLemmas.{none_found}
@@ -11,7 +11,7 @@ invariant_of-self c =
     let s = c.self.inside in
     let h = c.self.invariant in
     let e = c.first_from-at.ensures in
-    recounted s.size s.entries.items (deque_capacity s.entries) s.counts _ s.by_ticket s.room s.stretches.items (counts_marked s.size s.entries.items s.counts c.first_from-at.result e.within (e.none s.size h.counted.marked) h.counted) h
+    recounted s.size s.entries.items (deque_capacity s.entries) s.counts _ s.by_ticket s.room s.stretches.items (counts_marked s.size s.entries.items s.counts c.first_from-at.result e.within (e.none s.size h.counted.marked) h.counted) refl h
 
 pub returns-then-at-len-clause-first : goal.returns-then-at-len-clause-first
 returns-then-at-len-clause-first c =

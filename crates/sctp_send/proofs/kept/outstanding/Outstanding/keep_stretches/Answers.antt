@@ -11,5 +11,5 @@ invariant_of-self c =
       within = h.within;
       here = h.here;
       there = h.there;
-      known = known_less s.size s.by_ticket.first s.stretches.items c.keep_stretches.new.stretches.items s.entries.items c.keep_stretches.ensures h.known;
+      known = known_less s.counts.header s.size s.by_ticket.first s.stretches.items c.keep_stretches.new.stretches.items s.entries.items c.keep_stretches.ensures h.known;
     }

@@ -23,7 +23,7 @@ invariant_of-self c =
       within = h.within;
       here = h.here;
       there = h.there;
-      known = known_looked s.size first at s.stretches.items now c.look_at_stretch-known.result es few within begins
+      known = known_looked s.counts.header s.size first at s.stretches.items now c.look_at_stretch-known.result es few within begins
           (subst (λ (i : ℕ). SayTheSame i now s.stretches.items) c.index-index.ensures c.put_stretch.ensures.others)
           (λ r there. c.put_stretch.ensures.here r (ap (λ (i : ℕ). slice_get now (slot_at i)) c.index-index.ensures ∙ there)) c.look_at_stretch-known.ensures h.known;
     }

@@ -33,5 +33,6 @@ invariant_of-self c =
           omega (arith, long, le);
       here = let le = h.here in omega (arith, c.pop_front.ensures.capacity, le);
       there = let le = h.there in omega (arith, c.pop_front-in-Some.ensures.capacity, le);
-      known = known_behind s.size o.first c.pop_front-in-Some.new.self.first s.stretches.items c.in-Some.entry rest c.pop_front-in-Some.ensures.first (subst (λ (es : List EntryFields). AreKnown s.size o.first s.stretches.items es) items h.known);
+      known = subst (λ (n : ℕ). AreKnown n s.size c.pop_front-in-Some.new.self.first s.stretches.items rest) (sym (ap (λ (n : Counts). n.header) c.leave.ensures))
+          (known_behind s.counts.header s.size o.first c.pop_front-in-Some.new.self.first s.stretches.items c.in-Some.entry rest c.pop_front-in-Some.ensures.first (subst (λ (es : List EntryFields). AreKnown s.counts.header s.size o.first s.stretches.items es) items h.known));
     }

@@ -2,6 +2,7 @@ use Rattle.std.proofs.Common.{◌≡◌, ◌<◌, ◌∷◌, [], ◌++◌, List,
 use Rattle.std.proofs.lemmas.List.{length-map, map-append}
 use Rattle.sctp_send.specs.PartsKept.{OutstandingKept}
 use Rattle.sctp_send.specs.inner.TicketOrder.{IsOrderOf, ticket_of, tickets_of}
+use Rattle.sctp_send.specs.declared.kept.counts.Counts.{Counts}
 use Rattle.sctp_send.specs.declared.kept.message.Message.{Message as MessageFields}
 use Rattle.sctp_send.specs.declared.kept.entry.Entry.{Entry as EntryFields}
 use Rattle.sctp_send.proofs.kept.CountLemmas.{counts_pushed}
@@ -45,10 +46,11 @@ invariant_of-self c =
       known =
           let here = ap (index_at s.by_ticket.first) long in
           let now = c.forget_added.new.stretches.items in
-          subst (λ (xs : List EntryFields). AreKnown s.size c.push.new.self.first now xs) (sym items)
-          (subst (λ (n : ℕ). AreKnown s.size n now (es ++ e ∷ [])) (sym c.push.ensures.first)
-          (known_pushed s.size s.by_ticket.first s.stretches.items now es e
+          subst (λ (n : ℕ). AreKnown n s.size c.push.new.self.first now c.push_back_reserved.new.self.items) (sym (ap (λ (n : Counts). n.header) c.add.ensures))
+          (subst (λ (xs : List EntryFields). AreKnown s.counts.header s.size c.push.new.self.first now xs) (sym items)
+          (subst (λ (n : ℕ). AreKnown s.counts.header s.size n now (es ++ e ∷ [])) (sym c.push.ensures.first)
+          (known_pushed s.counts.header s.size s.by_ticket.first s.stretches.items now es e
           (subst (λ (i : ℕ). SayTheSame i now s.stretches.items) here c.forget_added.ensures.others)
           (subst (λ (i : ℕ). SayNothing i now) here c.forget_added.ensures.here)
-          h.known));
+          h.known)));
     }

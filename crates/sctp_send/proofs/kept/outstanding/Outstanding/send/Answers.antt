@@ -12,7 +12,7 @@ send_one-requires c = record {
 
 pub invariant_of-self : goal.invariant_of-self
 invariant_of-self c =
-    entry_changed c.args.at went_out (λ e. refl) c.send_one.ensures.items c.send_one.ensures.counted c.send_one.ensures.capacity c.index.ensures c.forget_stretch.ensures.others c.forget_stretch.ensures.here c.self.invariant
+    entry_changed c.args.at went_out (λ e. refl) c.send_one.ensures.items c.send_one.ensures.counted c.send_one.ensures.header c.send_one.ensures.capacity c.index.ensures c.forget_stretch.ensures.others c.forget_stretch.ensures.here c.self.invariant
 
 pub returns : goal.returns
-returns c = rw (← c.self.view_is, c.send_one.ensures.items) refl
+returns c = rw (← c.self.view_is, c.send_one.ensures.items, c.send_one.ensures.header) refl

@@ -12,7 +12,7 @@ stand_one-requires c = record {
 
 pub invariant_of-self : goal.invariant_of-self
 invariant_of-self c =
-    entry_changed c.args.at (stood c.args.state) (λ e. refl) c.stand_one.ensures.items c.stand_one.ensures.counted c.stand_one.ensures.capacity c.index.ensures c.forget_stretch.ensures.others c.forget_stretch.ensures.here c.self.invariant
+    entry_changed c.args.at (stood c.args.state) (λ e. refl) c.stand_one.ensures.items c.stand_one.ensures.counted c.stand_one.ensures.header c.stand_one.ensures.capacity c.index.ensures c.forget_stretch.ensures.others c.forget_stretch.ensures.here c.self.invariant
 
 pub returns : goal.returns
-returns c = rw (← c.self.view_is, c.stand_one.ensures.items) refl
+returns c = rw (← c.self.view_is, c.stand_one.ensures.items, c.stand_one.ensures.header) refl

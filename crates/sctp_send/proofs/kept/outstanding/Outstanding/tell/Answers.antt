@@ -14,8 +14,8 @@ tell_one-requires c = record {
 
 pub invariant_of-self : goal.invariant_of-self
 invariant_of-self c =
-    entry_changed c.args.at (told c.args.covered) (same_ticket c.args.covered) c.tell_one.ensures.items c.tell_one.ensures.counted c.tell_one.ensures.capacity c.index.ensures c.put_stretch.ensures.others
+    entry_changed c.args.at (told c.args.covered) (same_ticket c.args.covered) c.tell_one.ensures.items c.tell_one.ensures.counted c.tell_one.ensures.header c.tell_one.ensures.capacity c.index.ensures c.put_stretch.ensures.others
     (λ s there. ap (λ (x : Stretch). x.is_known) (c.put_stretch.ensures.here s there)) c.self.invariant
 
 pub returns : goal.returns
-returns c = rw (← c.self.view_is, c.tell_one.ensures.items) refl
+returns c = rw (← c.self.view_is, c.tell_one.ensures.items, c.tell_one.ensures.header) refl

@@ -25,7 +25,7 @@ turn_stretch-requires c =
     ap (λ (ss : List Stretch). slice_get ss (slot_at (index_at s.by_ticket.first at))) (sym c.deref.ensures.value) ∙ ap (λ (i : ℕ). slice_get c.deref.result.now (slot_at i)) (sym c.index-index.ensures) ∙ c.stretch_of-known.ensures (flag_on c.stretch_of-known.result.is_known c.if-not-known.false) in
     let alike = h.known at known within begins read (flag_on c.stretch_of-known.result.is_known c.if-not-known.false) in
     record {
-      alike = subst (λ (b : Bool). AreAlike s.size b known.bytes known.plain at 64 es) (flags_differ known.covered c.args.covered c.if-known-covered.false) alike;
+      alike = subst (λ (b : Bool). AreAlike s.counts.header s.size b known.bytes known.chunks known.plain at 64 es) (flags_differ known.covered c.args.covered c.if-known-covered.false) alike;
       counted = h.counted;
     }
 
@@ -43,8 +43,8 @@ returns-then-known-covered-clause-told c = λ on.
     let read : slice_get s.stretches.items (slot_at (index_at s.by_ticket.first at)) ≡ Some known =
     ap (λ (ss : List Stretch). slice_get ss (slot_at (index_at s.by_ticket.first at))) (sym c.deref.ensures.value) ∙ ap (λ (i : ℕ). slice_get c.deref.result.now (slot_at i)) (sym c.index-index.ensures) ∙ c.stretch_of-known.ensures (flag_on c.stretch_of-known.result.is_known c.if-not-known.false) in
     let alike = h.known at known within begins read (flag_on c.stretch_of-known.result.is_known c.if-not-known.false) in
-    let told = subst (λ (b : Bool). AreAlike s.size b known.bytes known.plain at 64 es) (flags_same known.covered c.args.covered c.if-known-covered.true) alike in
-    let same : told_run c.args.covered at 64 w.items ≡ w.items = subst (λ (xs : List EntryFields). told_run c.args.covered at 64 xs ≡ xs) (ap (λ (k : OutstandingKept). k.items) c.self.view_is) (run_same s.size c.args.covered known.bytes known.plain at 64 es told) in
+    let told = subst (λ (b : Bool). AreAlike s.counts.header s.size b known.bytes known.chunks known.plain at 64 es) (flags_same known.covered c.args.covered c.if-known-covered.true) alike in
+    let same : told_run c.args.covered at 64 w.items ≡ w.items = subst (λ (xs : List EntryFields). told_run c.args.covered at 64 xs ≡ xs) (ap (λ (k : OutstandingKept). k.items) c.self.view_is) (run_same s.counts.header s.size c.args.covered known.bytes known.chunks known.plain at 64 es told) in
     ap (λ (xs : List EntryFields). record w { items = xs }) (sym same)
 
 pub invariant_of-self : goal.invariant_of-self
@@ -72,8 +72,9 @@ invariant_of-self c =
       within = let le = h.within in omega (arith, long, le);
       here = let le = h.here in omega (arith, c.turn_stretch.ensures.capacity, le);
       there = h.there;
-      known = subst (λ (xs : List EntryFields). AreKnown s.size first now xs) (sym items)
-          (known_turned s.size first at known.covered b known.bytes known.plain s.stretches.items now _ es few within begins
+      known = subst (λ (n : ℕ). AreKnown n s.size first now c.turn_stretch.new.entries.items) (sym c.turn_stretch.ensures.header)
+          (subst (λ (xs : List EntryFields). AreKnown s.counts.header s.size first now xs) (sym items)
+          (known_turned s.counts.header s.size first at known.covered b known.bytes known.chunks known.plain s.stretches.items now _ es few within begins
           (subst (λ (i : ℕ). SayTheSame i now s.stretches.items) c.index-index.ensures c.put_stretch.ensures.others)
-          (λ r there. c.put_stretch.ensures.here r (ap (λ (i : ℕ). slice_get now (slot_at i)) c.index-index.ensures ∙ there)) refl refl refl alike h.known);
+          (λ r there. c.put_stretch.ensures.here r (ap (λ (i : ℕ). slice_get now (slot_at i)) c.index-index.ensures ∙ there)) refl refl refl refl alike h.known));
     }

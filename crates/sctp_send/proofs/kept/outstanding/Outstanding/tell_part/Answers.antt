@@ -33,7 +33,8 @@ invariant_of-self c =
       within = let le = h.within in omega (arith, long, le);
       here = let le = h.here in omega (arith, c.tell_entries.ensures.capacity, le);
       there = h.there;
-      known = subst (λ (xs : List EntryFields). AreKnown s.size first now xs) (sym items)
-          (known_part s.size first at many b s.stretches.items now es c.stretch_end-end.ensures.stretch (subst (λ (i : ℕ). SayTheSame i now s.stretches.items) c.index.ensures c.put_stretch.ensures.others)
-          (λ r there. ap (λ (x : Stretch). x.is_known) (c.put_stretch.ensures.here r (ap (λ (i : ℕ). slice_get now (slot_at i)) c.index.ensures ∙ there))) h.known);
+      known = subst (λ (n : ℕ). AreKnown n s.size first now c.tell_entries.new.entries.items) (sym c.tell_entries.ensures.header)
+          (subst (λ (xs : List EntryFields). AreKnown s.counts.header s.size first now xs) (sym items)
+          (known_part s.counts.header s.size first at many b s.stretches.items now es c.stretch_end-end.ensures.stretch (subst (λ (i : ℕ). SayTheSame i now s.stretches.items) c.index.ensures c.put_stretch.ensures.others)
+          (λ r there. ap (λ (x : Stretch). x.is_known) (c.put_stretch.ensures.here r (ap (λ (i : ℕ). slice_get now (slot_at i)) c.index.ensures ∙ there))) h.known));
     }

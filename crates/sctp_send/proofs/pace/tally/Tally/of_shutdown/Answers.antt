@@ -16,7 +16,7 @@ returns c = λ top.
     let end : c.skip.result.at ≡ last = omega (arith, c.skip.ensures.at, first, above) in
     let passed = c.of_passed.ensures.tally on (λ j lo hi. shut_passed xs n j hi) in
     record {
-      tally = tally_skip xs on c.of_passed.result c.skip.result last passed (λ j lo hi. shut_idle xs n j (omega (arith, lo, first))) c.skip.ensures.at c.skip.ensures.bytes c.skip.ensures.newest;
+      tally = tally_skip c.args.outstanding.now.header xs on c.of_passed.result c.skip.result last passed (λ j lo hi. shut_idle xs n j (omega (arith, lo, first))) c.skip.ensures.at c.skip.ensures.bytes c.skip.ensures.newest;
       here = ap on end ∙ (elim (cases_lt n last) [ inl past ↦ shut_beyond xs n last past ∙ c.last_closed.ensures.here size past | inr within ↦ shut_passed xs n last within ]);
       beyond = λ j lo.
           let past : n < j = omega (arith, lo, end, above) in

@@ -17,13 +17,14 @@ loop-at-preserved c =
     record {
       here = omega (arith, c.with-tally.ensures.at, h.here);
       size = h.size;
+      header = h.header;
       within = h.within;
       below = h.below;
       upto = omega (arith, c.loop-at-test.true);
       tally = λ on before all.
           let one : suc t.at ≡ c.loop-at.at + 1 = omega (arith, h.here) in
-          tally_with (map (item_meaning size) es) on t u (item_meaning size c.get.result.now) (h.tally on before (λ j lo hi. all j lo (omega (arith, hi)))) (all (suc t.at) (omega (arith, h.here, c.loop-at.auto.at)) (omega (arith, one))) read c.with-tally.ensures.at
-          (rw (← h.size) c.with-tally.ensures.bytes) c.with-tally.ensures.newest;
+          tally_with c.args.outstanding.now.header (map (item_meaning size) es) on t u (item_meaning size c.get.result.now) (h.tally on before (λ j lo hi. all j lo (omega (arith, hi)))) (all (suc t.at) (omega (arith, h.here, c.loop-at.auto.at)) (omega (arith, one))) read c.with-tally.ensures.at
+          (rw (← h.size, ← h.header) c.with-tally.ensures.bytes) c.with-tally.ensures.newest;
     }
 
 pub returns-clause-at : goal.returns-clause-at
@@ -35,5 +36,5 @@ returns-clause-tally c = λ on before all.
     let es = c.args.outstanding.now.items in
     let size = c.args.outstanding.now.size in
     let t = c.loop-at.tally in
-    tally_skip (map (item_meaning size) es) on t c.skip.result c.args.to (h.tally on before (λ j lo hi. all j lo (omega (arith, lo, hi, h.upto, h.below))))
+    tally_skip c.args.outstanding.now.header (map (item_meaning size) es) on t c.skip.result c.args.to (h.tally on before (λ j lo hi. all j lo (omega (arith, lo, hi, h.upto, h.below))))
     (λ j lo hi. idle_closed (map (item_meaning size) es) on j (here_past is_item_open size es (j - 1) (omega (arith, lo, hi, h.here, c.loop-at-test.false, c.min-at-end.ensures, c.len.ensures)))) c.skip.ensures.at c.skip.ensures.bytes c.skip.ensures.newest

@@ -10,8 +10,9 @@ invariant-loop-at l =
     record {
       here : l.tally.at ≡ l.at;
       size : l.size ≡ l.outstanding.size;
+      header : l.header ≡ l.outstanding.header;
       within : l.at-end ≤ length l.outstanding.items;
       below : l.at-end ≤ l.to;
       upto : l.at ≤ max l.fn.self.at l.at-end;
-      tally : (on : ℕ → Bool) → IsTally xs on l.fn.self → ((j : ℕ) → l.fn.self.at < j → j ≤ l.at → on j ≡ true) → IsTally xs on l.tally;
+      tally : (on : ℕ → Bool) → IsTally l.outstanding.header xs on l.fn.self → ((j : ℕ) → l.fn.self.at < j → j ≤ l.at → on j ≡ true) → IsTally l.outstanding.header xs on l.tally;
     }

@@ -50,7 +50,7 @@ loop-block-preserved c =
           let p = first_parts (t.at - n) b bs (order good) in
           let starts = p.starts in
           c.take_gaps-tally.ensures.tally on lie
-          (tally_skip xs on t s (n + c.saturating_sub-before.result) (h.tally lie good weighed)
+          (tally_skip c.args.outstanding.now.header xs on t s (n + c.saturating_sub-before.result) (h.tally lie good weighed)
           (λ j lo hi. idle_off xs on j (rest good j lo ∙ block_before n (t.at - n) j b bs (order good) (omega (arith, hi, c.saturating_sub-before.ensures, start, starts)))) c.skip.ensures.at c.skip.ensures.bytes c.skip.ensures.newest)
           (λ j lo hi. rest good j (omega (arith, lo, before)) ∙ block_covers n j b bs (omega (arith, lo, before, starts)) (omega (arith, hi, end)));
       here = λ good.

@@ -11,7 +11,7 @@ invariant-loop-block l =
     let xs = map (item_meaning l.outstanding.size) l.outstanding.items in
     record {
       from : l.passed ≤ l.tally.at;
-      tally : LieCovered l.runs xs → some_is_bad 0 l.blocks ≡ false → IsTally xs (sack_covers l.passed l.blocks) l.fn.self → IsTally xs (sack_covers l.passed l.blocks) l.tally;
+      tally : LieCovered l.runs xs → some_is_bad 0 l.blocks ≡ false → IsTally l.outstanding.header xs (sack_covers l.passed l.blocks) l.fn.self → IsTally l.outstanding.header xs (sack_covers l.passed l.blocks) l.tally;
       here : some_is_bad 0 l.blocks ≡ false → sack_covers l.passed l.blocks l.tally.at ≡ true;
       order : some_is_bad 0 l.blocks ≡ false → some_is_bad (l.tally.at - l.passed) l.block-iterator ≡ false;
       rest : some_is_bad 0 l.blocks ≡ false → (j : ℕ) → l.tally.at < j → sack_covers l.passed l.blocks j ≡ in_blocks l.passed l.block-iterator j;

@@ -16,7 +16,7 @@ loop-next-preserved c =
       upto = omega (arith, h.upto, c.take.ensures.at, c.skip-tally.ensures.at, c.min.ensures, c.min-in-loop-next.ensures);
       tally = λ on runs before all.
           let weighed = c.take.ensures.tally on (h.tally on runs before all) (λ j lo hi. all j (omega (arith, lo, h.from)) (omega (arith, hi, c.min.ensures))) in
-          run_skipped xs on c.args.runs.now c.loop-next.next c.args.to c.min.result c.min-in-loop-next.result no_run c.loop-next.tally c.take.result c.skip-tally.result runs c.loop-next-test.true (rw (← c.from.ensures) c.min.ensures) (rw (← c.from-end.ensures) c.min-in-loop-next.ensures)
+          run_skipped c.args.outstanding.now.header xs on c.args.runs.now c.loop-next.next c.args.to c.min.result c.min-in-loop-next.result no_run c.loop-next.tally c.take.result c.skip-tally.result runs c.loop-next-test.true (rw (← c.from.ensures) c.min.ensures) (rw (← c.from-end.ensures) c.min-in-loop-next.ensures)
           weighed c.take.ensures.at c.skip-tally.ensures.at c.skip-tally.ensures.bytes c.skip-tally.ensures.newest;
     }
 
@@ -25,12 +25,12 @@ returns-then-to-end-clause-tally c = λ on runs before all.
     let h = c.loop-next.invariant in
     let xs = map (item_meaning c.args.outstanding.now.size) c.args.outstanding.now.items in
     let weighed = c.take.ensures.tally on (h.tally on runs before all) (λ j lo hi. all j (omega (arith, lo, h.from)) (omega (arith, hi, c.min.ensures))) in
-    let skipped = run_skipped xs on c.args.runs.now c.loop-next.next c.args.to c.min.result c.min-in-loop-next.result no_run c.loop-next.tally c.take.result c.skip-tally.result runs c.loop-next-test.true (rw (← c.from.ensures) c.min.ensures) (rw (← c.from-end.ensures) c.min-in-loop-next.ensures)
+    let skipped = run_skipped c.args.outstanding.now.header xs on c.args.runs.now c.loop-next.next c.args.to c.min.result c.min-in-loop-next.result no_run c.loop-next.tally c.take.result c.skip-tally.result runs c.loop-next-test.true (rw (← c.from.ensures) c.min.ensures) (rw (← c.from-end.ensures) c.min-in-loop-next.ensures)
     weighed c.take.ensures.at c.skip-tally.ensures.at c.skip-tally.ensures.bytes c.skip-tally.ensures.newest in
-    tally_same xs on c.skip-tally.result _ skipped refl refl refl
+    tally_same c.args.outstanding.now.header xs on c.skip-tally.result _ skipped refl refl refl
 
 pub returns-clause-tally : goal.returns-clause-tally
 returns-clause-tally c = λ on runs before all.
     let h = c.loop-next.invariant in
     let xs = map (item_meaning c.args.outstanding.now.size) c.args.outstanding.now.items in
-    tally_same xs on c.take-2.result _ (c.take-2.ensures.tally on (h.tally on runs before all) (λ j lo hi. all j (omega (arith, lo, h.from)) hi)) refl refl refl
+    tally_same c.args.outstanding.now.header xs on c.take-2.result _ (c.take-2.ensures.tally on (h.tally on runs before all) (λ j lo hi. all j (omega (arith, lo, h.from)) hi)) refl refl refl

@@ -10,5 +10,5 @@ invariant-loop-next l =
     record {
       from : l.fn.self.at ≤ l.tally.at;
       upto : l.tally.at ≤ max l.fn.self.at l.to;
-      tally : (on : ℕ → Bool) → LieCovered l.runs xs → IsTally xs on l.fn.self → ((j : ℕ) → l.fn.self.at < j → j ≤ l.to → on j ≡ true) → IsTally xs on l.tally;
+      tally : (on : ℕ → Bool) → LieCovered l.runs xs → IsTally l.outstanding.header xs on l.fn.self → ((j : ℕ) → l.fn.self.at < j → j ≤ l.to → on j ≡ true) → IsTally l.outstanding.header xs on l.tally;
     }

@@ -1,0 +1,4 @@
+pub mod WentLemmas
+pub mod MissLemmas
+pub mod ControlLemmas
+pub mod PaceLemmas
