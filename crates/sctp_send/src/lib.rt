@@ -61,8 +61,10 @@
 //! longer so (64 entries at a time, if they are alike); a FORWARD a walk over what it passes the first time, and its list when it is sent again;
 //! `on_timeout` and `wear` all that is outstanding, `on_missed` and `wear_between` what is of their range, `next_at_limit` the outstanding entries of
 //! higher tickets up to the one that it finds; `expire` and `next_late` the tickets whose deadlines have passed; `weigh` what the SACK does but for what is
-//! no longer acknowledged, each entry once, `first_missed` its range, `room_of_repeats` the entries from the first marked one on, `last_sent` the
-//! entries after it, which were never sent, `queued_bytes_on` the queue, but of user data of data channels nothing; other readers are constant, `abandon` and `acknowledged` the message's own
+//! no longer acknowledged, each entry once, `list_taken_back` two tests if the last SACK had no gap blocks, its runs and the blocks if nothing is taken
+//! back, and else all that is outstanding, once, `first_missed` its range, `room_of_repeats` the entries from the first marked one on, `last_sent` the
+//! entries after it, which were never sent, `has_more` the entries from the first one on that was marked or not sent at the last fill, if there was one,
+//! `queued_bytes_on` the queue, but of user data of data channels nothing; other readers are constant, `abandon` and `acknowledged` the message's own
 //! entries and a search for them, by a look at three of them if tickets rise by one from entry to entry, otherwise binary. The first `reset` makes a
 //! table of all streams; each costs a binary search among the streams that wait for their reset, a move of those with higher numbers, and the entries
 //! after the last one of its stream; `on_response` the streams that wait, if it ends the request; `may_ask` and `ask` the streams that wait, each a
@@ -75,8 +77,8 @@
 //! `dues`, `entry`, `resets`, `seats`, `shells`, `user_data`; `fates`, `heads`, `naming`, `pieces`; `queue`, `told`, `track`, `wishes`; `counts`, `looking`, `queued_on`;
 //! `streams`, `stretches`; `acknowledging`, `outstanding`; `by_message`, `entries`, `giving_back`, `going_out`, `lanes`, `marking`,
 //! `run_room`, `searching`, `stock`, `table`, `tally`, `telling`, `weight`; `assigning`, `covered`, `flying`, `others`, `repeats`, `restarting`, `sender`,
-//! `still`, `waking`; `answering`, `asking`, `at_limit`, `last`, `laws`, `owing`, `pace`, `readers`, `resetting`, `sack`, `wear`, `weighing`; `abandon`,
-//! `entering`, `keeping`, `moments`, `passing`, `queueing`, `turning`; `expire`, `fill`, `forward`.
+//! `still`, `waking`; `answering`, `asking`, `at_limit`, `last`, `laws`, `more`, `owing`, `pace`, `readers`, `resetting`, `sack`, `taking_back`, `wear`,
+//! `weighing`; `abandon`, `entering`, `keeping`, `moments`, `passing`, `queueing`, `turning`; `expire`, `fill`, `forward`.
 //!
 //! What a body may still get away with: nothing that a caller can see but costs, how much memory is kept, and the texts of `Debug` and of faults. Only
 //! tested: `crates/sctp_call_rows` compares each answer and each packet's bytes at the limits (docs/CALLS.md).
